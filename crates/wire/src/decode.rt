@@ -107,13 +107,13 @@ fn pairs_in(
     ensures { λ r. ⌜ made r (λ v. vec-items v ≡ pairs-in (now (input .entry)) from count) ⌝ }
 {
     let mut pairs = Vec::new(heap);
-    for i in 0..count {
-        pairs.push((u16_at(input, from + 6 * i), u32_at(input, from + 6 * i + 2)))?;
+    for k in 0..count {
+        pairs.push((u16_at(input, from + 6 * k), u32_at(input, from + 6 * k + 2)))?;
     }
     Ok(pairs)
 }
 
-// The call at the front of the input, which has `size` bytes.
+// The call at the front of the input, all of it being there.
 fn call_in<'a>(heap: Global, input: &'a [u8]) -> Result<Call<'a>, AllocError>
     requires { ⌜ 5 ≤ head-size (getD (now input) 0 0) ⌝ ∗ ⌜ head-size (getD (now input) 0 0) ≤ length (now input) ⌝ ∗ ⌜ call-size (getD (now input) 0 0) (now input) ≤ length (now input) ⌝ }
     ensures { λ r. ⌜ made r (λ c. meant c ≡ call-in (now (input .entry))) ⌝ }
@@ -131,10 +131,11 @@ fn call_in<'a>(heap: Global, input: &'a [u8]) -> Result<Call<'a>, AllocError>
             let pairs = pairs_in(heap, input, 7 + 4 * sources, count)?;
             Ok(Call::Interleave { columns, pairs })
         }
-        _ => Ok(Call::Read {
-            column: u32_at(input, 1),
-            row: u32_at(input, 5),
-        }),
+        _ => {
+            let column = u32_at(input, 1);
+            let row = u32_at(input, 5);
+            Ok(Call::Read { column, row })
+        }
     }
 }
 

@@ -36,10 +36,11 @@ pub fn read_call<R: Read>(input: &mut R, held: &mut [u8; MOST_BYTES]) -> io::Res
         };
         let got = input.read(&mut held[filled..filled + lacks])?;
         if got == 0 {
-            return Ok(filled);
+            break;
         }
         filled += got;
     }
+    Ok(filled)
 }
 
 // Serves calls until one halts it or the input ends between two calls. Each answer's line is written before the next call

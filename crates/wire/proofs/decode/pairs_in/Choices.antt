@@ -3,5 +3,5 @@ use Rattle.std.specs.Of.Vec.{vec-items}
 use Rattle.wire.specs.Calls.{pairs-in}
 use Rattle.wire.proofs.decode.pairs_in.Given as given
 
-abbrev pub Inv-loop-i : given.InvT-loop-i
-Inv-loop-i l = vec-items (l .pairs) ≡ pairs-in (l .input) (l .from) (l .i)
+abbrev pub Inv-loop-k : given.InvT-loop-k
+Inv-loop-k l = vec-items (l .pairs) ≡ pairs-in (l .input) (l .from) (l .k)

@@ -10,8 +10,8 @@ use Rattle.wire.specs.declared.call.Extent.the-variants.{Lacks}
 use Rattle.wire.proofs.Reaching.{one-call-on, lacks-room, front-on}
 use Rattle.wire.proofs.serve.read_call.Needs as need
 
-pub returns-then-got-eq0 : need.returns-then-got-eq0
-returns-then-got-eq0 g c = (
+pub returns : need.returns
+returns g c = (
   c .loop-lacks .inv .0,
   subst One-call (sym (take-put (c .loop-lacks .filled) _ (c .loop-lacks .held) (c .read .last .buf) (search needs))) (c .loop-lacks .inv .1),
 )
