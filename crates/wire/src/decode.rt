@@ -5,7 +5,10 @@ ghost use lib.ListN.{length, getD};
 ghost use Rattle.std.specs.Of.Vec.{vec-items};
 ghost use Rattle.std.specs.Options.{Cases as BySome};
 ghost use Rattle.std.specs.Vec.{made};
-ghost use Rattle.wire.specs.Calls.{u16-at, u32-at, head-size, call-size, extent-of, columns-in, pairs-in, call-in, front, meant, told};
+ghost use Rattle.wire.specs.Calls.{u16-at, u32-at, head-size, call-size, extent-of, columns-in, pairs-in, call-in, front, whole, meant, told};
+ghost use Rattle.wire.specs.Calls.{Call as Asked};
+ghost use Rattle.wire.specs.Encoded.{encoded};
+ghost use mathlib.Core.List.{List, _++_};
 use super::call::Call;
 use super::call::Decoded;
 use super::call::Extent;
@@ -139,8 +142,8 @@ fn call_in<'a>(heap: Global, input: &'a [u8]) -> Result<Call<'a>, AllocError>
     }
 }
 
-// The call at the front of the input, and what is left after it.
-pub fn decode<'a>(heap: Global, input: &'a [u8]) -> Result<Decoded<'a>, AllocError>
+// What the front of the input is, by how far its call reaches.
+fn front_of<'a>(heap: Global, input: &'a [u8]) -> Result<Decoded<'a>, AllocError>
     ensures { λ r. ⌜ made r (λ d. told d ≡ front (now (input .entry))) ⌝ }
 {
     match extent(input) {
@@ -153,4 +156,13 @@ pub fn decode<'a>(heap: Global, input: &'a [u8]) -> Result<Decoded<'a>, AllocErr
         Extent::Unknown => Ok(Decoded::Unknown),
         Extent::TooLong => Ok(Decoded::TooLong),
     }
+}
+
+// The call at the front of the input, and what is left after it. An input that begins with a call's bytes gives back that
+// call, and what follows them.
+pub fn decode<'a>(heap: Global, input: &'a [u8]) -> Result<Decoded<'a>, AllocError>
+    ensures front { λ r. ⌜ made r (λ d. told d ≡ front (now (input .entry))) ⌝ }
+    ensures inverts { λ r. ⌜ ((call : Asked) (rest : List ℕ) → length (encoded call) ≤ 65536 → now (input .entry) ≡ encoded call ++ rest → made r (λ d. told d ≡ whole call rest)) ⌝ }
+{
+    front_of(heap, input)
 }
