@@ -1,0 +1,62 @@
+-- The worked runs hold by computing.
+use mathlib.Core.Path.{refl}
+use Rattle.columns.specs.Format.{kind-of, offset-bytes, ends-format}
+use Rattle.columns.specs.Says.{says}
+use Rattle.columns.specs.Text.{text}
+use Rattle.columns.specs.Interleave.{interleaved}
+use Rattle.columns.specs.Types.{alike}
+use Rattle.columns.specs.Parcel.{node-read}
+use Rattle.columns.specs.Pools.{column-needs, format-bytes, making-checks}
+use Rattle.columns.specs.Ledger.{shelf-of}
+use Rattle.columns.specs.Cases.{Ledger-cases, Format-cases}
+use Rattle.columns.specs.Large.{Large-cases}
+
+pub ledger-cases : Ledger-cases
+unfolding kind-of offset-bytes ends-format says text interleaved node-read column-needs format-bytes making-checks shelf-of alike
+ledger-cases = record {
+  the-run = refl;
+  header-cut = refl;
+  format-cut = refl;
+  buffer-cut = refl;
+  bytes-left = refl;
+  unknown-format = refl;
+  child-count = refl;
+  masked-runs = refl;
+  too-few-values = refl;
+  offset-below-zero = refl;
+  offsets-from-below-zero = refl;
+  ends-short = refl;
+  runs-read = refl;
+  list-read = refl;
+  no-source = refl;
+  unlike-no-pairs = refl;
+  unknown-column = refl;
+  fieldless-outside = refl;
+  buffer-by-number = refl;
+  full-bytes = refl;
+  labels-read-whole = refl;
+  own-buffer-named = refl;
+  eight-levels = refl;
+  many-nodes = refl;
+  runs-of-bytes = refl;
+  map-of-bytes = refl;
+  row-limit = refl;
+  full-slip = refl;
+  bits-lowest-first = refl;
+  large-strings = refl;
+  data-bytes = refl;
+  data-bytes-full = refl;
+  data-buffers-full = refl;
+  unsound-before-full = refl;
+  mask-and-bits = refl;
+  mask-and-bits-full = refl;
+  slip-is-back = refl;
+}
+
+pub format-cases : Format-cases
+unfolding kind-of offset-bytes
+format-cases = record { one-byte = refl; two-byte = refl; four-byte = refl; eight-byte = refl; zones = refl; sizes = refl; no-such = refl; wide-offsets = refl }
+
+pub large-cases : Large-cases
+unfolding kind-of offset-bytes interleaved
+large-cases = record { last-fits = refl; first-over = refl; over-32-bits = refl; within-64-bits = refl }
