@@ -3,7 +3,6 @@ use mathlib.Core.Path.{_≡_}
 use mathlib.Core.List.{List, [], _∷_, map, _++_}
 use mathlib.Core.Bool.{Bool, false, cond, _&&_}
 use mathlib.Core.Option.{Option, some, none}
-use mathlib.Core.Logic.{_⊎_}
 use Prim.Native.Nat.{ℕ, _<_}
 use lib.ListN.{length, getD, drop}
 use lib.Dec.{leb, ltb}
@@ -157,17 +156,3 @@ answer lengths s (reads j r room) = unless-denied (first-denial (read-checks s j
 abbrev pub answers : Entries → Ledger → List Call → List Answer
 answers lengths L [] = []
 answers lengths L (c ∷ cs) = answer lengths (shelf-of L) c ∷ answers lengths (next lengths L c) cs
-
--- Which unlike source denial 6 names is left open.
-pub record Other-unlike (s : Shelf) (c : Call) (given right : Answer) : Type 0 where
-  pub js : List ℕ
-  pub ps : List Pair
-  pub position : ℕ
-  pub first : ℕ
-  pub call : c ≡ adds (interleaving js ps)
-  pub is-given : given ≡ refused (denial 6 position)
-  pub is-right : right ≡ refused (denial 6 first)
-  pub unlike : (position < length js) × (alike (column-at s (getD js 0 0)) (column-at s (getD js position 0)) ≡ false)
-
-abbrev pub May-answer : Entries → Shelf → Call → Answer → Type 0
-May-answer lengths s c a = (a ≡ answer lengths s c) ⊎ Other-unlike s c a (answer lengths s c)
