@@ -43,6 +43,7 @@ ledger-cases = record {
   row-limit = refl;
   full-slip = refl;
   bits-lowest-first = refl;
+  highest-byte-first = refl;
   large-strings = refl;
   data-bytes = refl;
   data-bytes-full = refl;

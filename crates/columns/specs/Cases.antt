@@ -29,6 +29,10 @@ head first count rows format = first ∷ 0 ∷ 0 ∷ count ∷ 0 ∷ 0 ∷ 0 ∷
 abbrev two-bytes : List ℕ
 two-bytes = head 1 0 2 (codes "C") ++ 0 ∷ 0 ∷ 0 ∷ 2 ∷ 7 ∷ 9 ∷ []
 
+-- two numbers of 16 bits
+abbrev two-shorts : List ℕ
+two-shorts = head 1 0 2 (codes "s") ++ 0 ∷ 0 ∷ 0 ∷ 4 ∷ 1 ∷ 2 ∷ 254 ∷ 255 ∷ []
+
 abbrev two-signed : List ℕ
 two-signed = head 1 0 2 (codes "c") ++ 0 ∷ 0 ∷ 0 ∷ 2 ∷ 7 ∷ 9 ∷ []
 
@@ -134,6 +138,7 @@ pub record Ledger-cases : Type 0 where
       (file list-of-lists ∷ adds (interleaving (0 ∷ []) ((0, 0) ∷ (0, 0) ∷ [])) ∷ reads 1 1 99 ∷ adds (interleaving (0 ∷ []) ((0, 0) ∷ (0, 0) ∷ (0, 0) ∷ [])) ∷ [])
       ≡ added 0 ∷ added 1 ∷ wrote (codes "[[07,09]]") ∷ refused (denial 13 11) ∷ []
   pub bits-lowest-first : ran (file nine-bits ∷ reads 0 0 9 ∷ reads 0 1 9 ∷ reads 0 7 9 ∷ reads 0 8 9 ∷ []) ≡ added 0 ∷ wrote (codes "t") ∷ wrote (codes "-") ∷ wrote (codes "f") ∷ wrote (codes "t") ∷ []
+  pub highest-byte-first : ran (file two-shorts ∷ reads 0 0 4 ∷ reads 0 1 4 ∷ []) ≡ added 0 ∷ wrote (codes "0201") ∷ wrote (codes "fffe") ∷ []
   pub large-strings : ran (file one-large ∷ reads 0 0 9 ∷ []) ≡ added 0 ∷ wrote (codes "\"6263\"") ∷ []
   pub data-bytes : answers (9 ∷ 9 ∷ 15 ∷ 9 ∷ 9 ∷ 9 ∷ 9 ∷ 9 ∷ 9 ∷ 1 ∷ 9 ∷ []) empty (file view-bringing ∷ []) ≡ added 0 ∷ []
   pub data-bytes-full : answers (9 ∷ 9 ∷ 14 ∷ 9 ∷ 9 ∷ 9 ∷ 9 ∷ 9 ∷ 9 ∷ 1 ∷ 9 ∷ []) empty (file view-bringing ∷ []) ≡ refused (denial 13 3) ∷ []
