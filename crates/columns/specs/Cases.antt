@@ -39,6 +39,10 @@ two-signed = head 1 0 2 (codes "c") ++ 0 ∷ 0 ∷ 0 ∷ 2 ∷ 7 ∷ 9 ∷ []
 abbrev long-view : List ℕ
 long-view = 13 ∷ 0 ∷ 0 ∷ 0 ∷ codes "abcd" ++ 0 ∷ 0 ∷ 0 ∷ 0 ∷ 0 ∷ 0 ∷ 0 ∷ 0 ∷ []
 
+-- no view, and one data buffer, whose length or number follows
+abbrev no-views : List ℕ
+no-views = head 2 0 0 (codes "vz") ++ 0 ∷ 0 ∷ 0 ∷ 0 ∷ 0 ∷ 1 ∷ []
+
 -- one long view, its data buffer brought, or named by its number
 abbrev view-bringing : List ℕ
 view-bringing = head 2 0 1 (codes "vz") ++ 0 ∷ 0 ∷ 0 ∷ 16 ∷ long-view ++ 0 ∷ 1 ∷ 0 ∷ 0 ∷ 0 ∷ 13 ∷ codes "abcdefghijklm"
@@ -118,6 +122,7 @@ pub record Ledger-cases : Type 0 where
   pub list-read : ran (file list-of-bytes ∷ adds (interleaving (0 ∷ []) ((0, 0) ∷ (0, 0) ∷ [])) ∷ reads 1 1 7 ∷ reads 1 1 6 ∷ [])
       ≡ added 0 ∷ added 1 ∷ wrote (codes "[07,09]") ∷ refused (denial 10 6) ∷ []
   pub no-source : ran (adds (interleaving [] []) ∷ []) ≡ refused (denial 5 0) ∷ []
+  pub source-limit : ran (file two-bytes ∷ adds (interleaving (replicate 64 0) []) ∷ adds (interleaving (replicate 65 0) []) ∷ []) ≡ added 0 ∷ added 1 ∷ refused (denial 5 65) ∷ []
   pub unlike-no-pairs : ran (file two-bytes ∷ file two-signed ∷ adds (interleaving (0 ∷ 1 ∷ []) []) ∷ []) ≡ added 0 ∷ added 1 ∷ refused (denial 6 1) ∷ []
   pub unknown-column : ran (file two-bytes ∷ adds (interleaving (0 ∷ 5 ∷ []) []) ∷ reads 9 0 4 ∷ []) ≡ added 0 ∷ refused (denial 11 5) ∷ refused (denial 11 9) ∷ []
   pub fieldless-outside : ran (file no-fields ∷ adds (interleaving (0 ∷ []) ((0, 1) ∷ (0, 2) ∷ [])) ∷ []) ≡ added 0 ∷ refused (denial 7 1) ∷ []
@@ -128,6 +133,7 @@ pub record Ledger-cases : Type 0 where
       ≡ added 0 ∷ added 1 ∷ refused (denial 13 3) ∷ refused (denial 13 3) ∷ []
   pub labels-read-whole : ran (file (labelled 1 0) ∷ file (labelled 0 0) ∷ file (labelled 1 0) ∷ adds (interleaving (0 ∷ 2 ∷ 1 ∷ []) []) ∷ adds (interleaving (0 ∷ 2 ∷ []) ((1, 1) ∷ [])) ∷ reads 3 0 4096 ∷ [])
       ≡ added 0 ∷ added 1 ∷ added 2 ∷ refused (denial 6 2) ∷ added 3 ∷ wrote (codes "{09}") ∷ []
+  pub highest-bit-names : ran (file (no-views ++ 64 ∷ 0 ∷ 0 ∷ 0 ∷ []) ∷ file (no-views ++ 128 ∷ 0 ∷ 0 ∷ 0 ∷ []) ∷ []) ≡ refused (denial 1 16) ∷ refused (denial 12 0) ∷ []
   pub own-buffer-named : ran (file view-naming-own ∷ []) ≡ refused (denial 12 0) ∷ []
   pub eight-levels : ran (file (nested 8) ∷ file (nested 9) ∷ []) ≡ added 0 ∷ refused (denial 3 8) ∷ []
   pub many-nodes : ran (file (wide 255) ∷ file (head 2 1 0 (codes "+s") ++ wide 255) ∷ []) ≡ added 0 ∷ refused (denial 3 256) ∷ []
