@@ -32,7 +32,7 @@ pub enum Denial {
     // there is no such data buffer
     Missing(usize),
     // this pool has too few entries
-    Full(u8),
+    Full(usize),
 }
 
 impl Denial {

@@ -12,10 +12,10 @@ use mathlib.Core.Logic.{_⊎_, inl, inr}
 use Rattle.std.proofs.shelf.Tests.{cases-eq, ne-eqb}
 use Rattle.columns.specs.Format.{kind-of, offset-bytes, ends-format, decimal, fixed-size}
 use Rattle.formats.specs.declared.format.Tick.{Tick}
-use Rattle.formats.specs.Spelled.{Meaning, meant, told, spelled, one-letter, two-letters, timed-of, tick-of, prim-of, stamp-of, fixed-of, lifted, simple}
+use Rattle.formats.specs.Spelled.{Meaning, meant, told, spelled, one-char, two-chars, timed-of, tick-of, prim-of, stamp-of, fixed-of, lifted, simple}
 use mathlib.Core.Option as math
 
-pub spelled-one : (l : List ℕ) → length l ≡ 1 → one-letter (getD l 0 0) ≡ spelled l
+pub spelled-one : (l : List ℕ) → length l ≡ 1 → one-char (getD l 0 0) ≡ spelled l
 spelled-one [] h = absurd (omega arith)
 spelled-one (a ∷ []) h = refl
 spelled-one (a ∷ b ∷ l) h = absurd (omega arith)
@@ -60,7 +60,7 @@ fixed-is : (o : math.Option ℕ) → fixed-size-meant o ≡ fixed-of (lifted o)
 fixed-is math.none = refl
 fixed-is (math.some n) = refl
 
-told-one : (a : ℕ) → told (a ∷ []) ≡ one-letter a
+told-one : (a : ℕ) → told (a ∷ []) ≡ one-char a
 unfolding kind-of offset-bytes ends-format
 told-one a =
     elim (apart 99 a) [
@@ -129,7 +129,7 @@ told-one a =
           ]
     ]
 
-told-two : (a b : ℕ) → told (a ∷ b ∷ []) ≡ two-letters a b
+told-two : (a b : ℕ) → told (a ∷ b ∷ []) ≡ two-chars a b
 unfolding kind-of offset-bytes ends-format
 told-two a b =
     elim (apart 118 a) [

@@ -140,13 +140,13 @@ abbrev pub prim-of : Option (Family × Width) → Meaning
 prim-of None = none-meant
 prim-of (Some p) = prim-meant (p .0) (p .1)
 
-abbrev pub one-letter : ℕ → Meaning
-one-letter c =
+abbrev pub one-char : ℕ → Meaning
+one-char c =
     cond (eqb c 98) (simple boolean 4) (cond (eqb c 117) (simple strings 4) (cond (eqb c 122) (simple strings 4)
     (cond (eqb c 85) (simple strings 8) (cond (eqb c 90) (simple strings 8) (prim-of (plain-of c))))))
 
-abbrev pub two-letters : ℕ → ℕ → Meaning
-two-letters a b =
+abbrev pub two-chars : ℕ → ℕ → Meaning
+two-chars a b =
     cond (eqb a 118) (cond (eqb b 117) (simple views 4) (cond (eqb b 122) (simple views 4) none-meant))
     (cond (eqb a 43)
     (cond (eqb b 108) (simple lists 4) (cond (eqb b 76) (simple lists 8) (cond (eqb b 109) (simple maps 4)
@@ -167,8 +167,8 @@ sized-or a b c digits other =
 
 abbrev pub spelled : List ℕ → Meaning
 spelled [] = none-meant
-spelled (a ∷ []) = one-letter a
-spelled (a ∷ b ∷ []) = two-letters a b
+spelled (a ∷ []) = one-char a
+spelled (a ∷ b ∷ []) = two-chars a b
 spelled (a ∷ b ∷ c ∷ []) = sized-or a b c [] (cond (eqb a 116) (prim-of (timed-of b c)) none-meant)
 spelled (a ∷ b ∷ c ∷ d ∷ rest) =
     cond (eqb a 116) (cond (eqb b 115) (cond (eqb d 58) (stamp-of (tick-of c) rest) none-meant) none-meant) (sized-or a b c (d ∷ rest) none-meant)

@@ -2,7 +2,7 @@
 ghost use mathlib.Core.Path.{_≡_};
 ghost use Prim.Native.Nat.{ℕ, _+_, _-_, _*_, _<_, _≤_};
 ghost use lib.ListN.{length, getD, take, drop};
-ghost use Rattle.formats.specs.Spelled.{meant, spelled, plain-of, tick-of, clock-of, timed-of, two-letters, one-letter, told};
+ghost use Rattle.formats.specs.Spelled.{meant, spelled, plain-of, tick-of, clock-of, timed-of, two-chars, one-char, told};
 use crate::decimal::number;
 
 // The bytes of a value.
@@ -122,7 +122,7 @@ fn timed(family: char, unit: char) -> Option<(Family, Width)>
 
 // A format of two letters.
 fn two<'a>(first: char, second: char) -> Option<Format<'a>>
-    ensures { λ r. ⌜ meant r ≡ two-letters first second ⌝ }
+    ensures { λ r. ⌜ meant r ≡ two-chars first second ⌝ }
 {
     match first {
         'v' => match second {
@@ -143,7 +143,7 @@ fn two<'a>(first: char, second: char) -> Option<Format<'a>>
 
 // A format of one letter.
 fn one<'a>(letter: char) -> Option<Format<'a>>
-    ensures { λ r. ⌜ meant r ≡ one-letter letter ⌝ }
+    ensures { λ r. ⌜ meant r ≡ one-char letter ⌝ }
 {
     match letter {
         'b' => Some(Format::Boolean),

@@ -1,0 +1,4 @@
+pub mod Counting
+pub mod Filing
+pub mod Rooms
+pub mod Deciding

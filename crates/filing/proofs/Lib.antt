@@ -1,0 +1,11 @@
+pub mod Numbers
+pub mod Rows
+pub mod Lents
+pub mod Lending
+pub mod Fitting
+pub mod Holding
+pub mod Filing
+pub mod Spanning
+pub mod Tracing
+pub mod Needing
+pub mod Accepting

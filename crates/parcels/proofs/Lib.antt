@@ -1,0 +1,9 @@
+pub mod Reading
+pub mod Allowing
+pub mod Along
+pub mod Walk
+pub mod Lents
+pub mod Opening
+pub mod Tracing
+pub mod Kids
+pub mod Outline

@@ -1,0 +1,10 @@
+pub mod Growing
+pub mod Fronts
+pub mod Staying
+pub mod Keeping
+pub mod Reading
+pub mod Same
+pub mod Showing
+pub mod Adding
+pub mod Rooms
+pub mod Worked

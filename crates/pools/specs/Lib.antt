@@ -1,0 +1,13 @@
+pub mod Grown
+pub mod Used
+pub mod Marked
+pub mod Parts
+pub mod Store
+pub mod Held
+pub mod Stored
+pub mod Bare
+pub mod Bits
+pub mod Kept
+pub mod Shows
+pub mod Laws
+pub mod Example

@@ -1,0 +1,5 @@
+pub mod Inked
+pub mod Raw
+pub mod Readable
+pub mod Answers
+pub mod Laws

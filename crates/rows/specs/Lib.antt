@@ -1,0 +1,3 @@
+pub mod Ranged
+pub mod Shelved
+pub mod Views
