@@ -9,3 +9,4 @@ pub mod Spanning
 pub mod Tracing
 pub mod Needing
 pub mod Accepting
+pub mod Plain

@@ -22,7 +22,7 @@ fn store_by(pools: &mut Pools<'_>, parcel: &[u8], drafts: &[Draft], table: &mut 
     requires ready { ⌜ Ready (now pools) ⌝ }
     requires drafted { ⌜ All (Drafted (now parcel)) (now drafts) ⌝ }
     requires few { ⌜ length (now drafts) ≤ 256 ⌝ }
-    requires accepted { ⌜ ((s : Shelf) × (slip : ℕ) × Accepted (now pools) slip s (now parcel) (now drafts)) ⌝ }
+    requires accepted { ⌜ ∥ ((s : Shelf) × (slip : ℕ) × Accepted (now pools) slip s (now parcel) (now drafts)) ∥₁ ⌝ }
     requires table { ⌜ length (now drafts) ≤ length (now table) ⌝ }
     ensures kept { λ _. ⌜ Kept (now (pools .entry)) (now (pools .exit)) ⌝ }
     ensures entry { λ _. ⌜ Gains (now (pools .entry) .columns) (record { root = now (pools .entry) .nodes .mark } ∷ []) (now (pools .exit) .columns) ⌝ }
@@ -41,7 +41,7 @@ pub fn store(pools: &mut Pools<'_>, parcel: &[u8], drafts: &[Draft])
     requires ready { ⌜ Ready (now pools) ⌝ }
     requires drafted { ⌜ All (Drafted (now parcel)) (now drafts) ⌝ }
     requires few { ⌜ length (now drafts) ≤ 256 ⌝ }
-    requires accepted { ⌜ ((s : Shelf) × (slip : ℕ) × Accepted (now pools) slip s (now parcel) (now drafts)) ⌝ }
+    requires accepted { ⌜ ∥ ((s : Shelf) × (slip : ℕ) × Accepted (now pools) slip s (now parcel) (now drafts)) ∥₁ ⌝ }
     ensures kept { λ _. ⌜ Kept (now (pools .entry)) (now (pools .exit)) ⌝ }
     ensures entry { λ _. ⌜ Gains (now (pools .entry) .columns) (record { root = now (pools .entry) .nodes .mark } ∷ []) (now (pools .exit) .columns) ⌝ }
     ensures shown { λ _. ⌜ ((s : Shelf) (slip : ℕ) → Accepted (now (pools .entry)) slip s (now (parcel .entry)) (now (drafts .entry)) → Shows (storeOf (now (pools .exit))) (filed-on s (parcel-read (s .buffers) (now (parcel .entry))))) ⌝ }

@@ -6,3 +6,4 @@ pub mod Walks
 pub mod Speaks
 pub mod Fitting
 pub mod Shelves
+pub mod Props

@@ -24,7 +24,7 @@ const MOST_LEVELS: u8 = 8;
 // Whether the text of a row fits into a buffer, which is left as it is.
 fn fits(pools: &Pools<'_>, place: usize, row: usize, text: &mut [u8]) -> bool
     requires ready { ⌜ Ready (now pools) ⌝ }
-    requires given { ⌜ ((c : Column) × Row-readable (store (now pools)) place c row most-levels) ⌝ }
+    requires given { ⌜ ∥ ((c : Column) × Row-readable (store (now pools)) place c row most-levels) ∥₁ ⌝ }
     ensures same { λ _. ⌜ now (text .exit) ≡ now (text .entry) ⌝ }
     ensures told { λ r. ⌜ ((c : Column) → Row-readable (store (now (pools .entry))) place c row most-levels → r ≡ leb (length (row-text (store (now (pools .entry))) c row)) (length (now (text .entry)))) ⌝ }
 {
@@ -41,7 +41,7 @@ fn fits(pools: &Pools<'_>, place: usize, row: usize, text: &mut [u8]) -> bool
 // Writes the text of a row, which fits, to the front of a buffer.
 fn write(pools: &Pools<'_>, place: usize, row: usize, text: &mut [u8]) -> usize
     requires ready { ⌜ Ready (now pools) ⌝ }
-    requires given { ⌜ ((c : Column) × Row-readable (store (now pools)) place c row most-levels) ⌝ }
+    requires given { ⌜ ∥ ((c : Column) × Row-readable (store (now pools)) place c row most-levels) ∥₁ ⌝ }
     ensures { λ r. ⌜ ((c : Column) → Row-readable (store (now (pools .entry))) place c row most-levels → length (row-text (store (now (pools .entry))) c row) ≤ length (now (text .entry)) → Stands (row-text (store (now (pools .entry))) c row) r (now (text .entry)) (now (text .exit))) ⌝ }
 {
     let mut pen = Pen {
@@ -57,7 +57,7 @@ fn write(pools: &Pools<'_>, place: usize, row: usize, text: &mut [u8]) -> usize
 // The text of a row of the column at a place, written to the front of a buffer; or nothing where it is longer.
 pub fn row_text(pools: &Pools<'_>, place: usize, row: usize, text: &mut [u8]) -> Option<usize>
     requires ready { ⌜ Ready (now pools) ⌝ }
-    requires given { ⌜ ((c : Column) × Row-readable (store (now pools)) place c row most-levels) ⌝ }
+    requires given { ⌜ ∥ ((c : Column) × Row-readable (store (now pools)) place c row most-levels) ∥₁ ⌝ }
     ensures { λ r. ⌜ ((c : Column) → Row-readable (store (now (pools .entry))) place c row most-levels → Placed r (row-text (store (now (pools .entry))) c row) (now (text .entry)) (now (text .exit))) ⌝ }
 {
     if fits(pools, place, row, text) {
@@ -92,7 +92,7 @@ fn longer_than(text: &[u8]) -> Denial
 // Reads a row of a column of the shelf, as the ledger answers it.
 pub fn read(pools: &Pools<'_>, column: u32, row: usize, text: &mut [u8]) -> Result<usize, Denial>
     requires ready { ⌜ Ready (now pools) ⌝ }
-    requires given { ⌜ ((s : Shelf) × Shelf-readable (store (now pools)) s) ⌝ }
+    requires given { ⌜ ∥ ((s : Shelf) × Shelf-readable (store (now pools)) s) ∥₁ ⌝ }
     ensures { λ r. ⌜ ((lengths : Entries) (s : Shelf) → Shelf-readable (store (now (pools .entry))) s → Gives r (answer lengths s (reads column row (length (now (text .entry))))) (now (text .entry)) (now (text .exit))) ⌝ }
 {
     if !has_column(pools, column) {

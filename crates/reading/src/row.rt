@@ -85,7 +85,7 @@ fn row_of(rows: Part, k: usize) -> usize
 // A row. A child has one level less.
 pub fn put_row(pools: &Pools<'_>, pen: &mut Pen<'_>, place: usize, row: usize, levels: u8)
     requires ready { ⌜ Ready (now pools) ⌝ }
-    requires given { ⌜ ((c : Column) × Row-readable (store (now pools)) place c row levels) ⌝ }
+    requires given { ⌜ ∥ ((c : Column) × Row-readable (store (now pools)) place c row levels) ∥₁ ⌝ }
     ensures { λ _. ⌜ ((c : Column) → Row-readable (store (now (pools .entry))) place c row levels → now (pen .exit) ≡ wrote (now (pen .entry)) (row-text (store (now (pools .entry))) c row)) ⌝ }
 {
     let node = node_at(&pools.nodes, place);
@@ -117,7 +117,7 @@ pub fn put_row(pools: &Pools<'_>, pen: &mut Pen<'_>, place: usize, row: usize, l
 // Some rows of the column at a place, with commas between.
 fn put_rows(pools: &Pools<'_>, pen: &mut Pen<'_>, place: usize, rows: Part, levels: u8)
     requires ready { ⌜ Ready (now pools) ⌝ }
-    requires given { ⌜ ((c : Column) × Rows-readable (store (now pools)) place c rows levels) ⌝ }
+    requires given { ⌜ ∥ ((c : Column) × Rows-readable (store (now pools)) place c rows levels) ∥₁ ⌝ }
     ensures { λ _. ⌜ ((c : Column) → Rows-readable (store (now (pools .entry))) place c rows levels → now (pen .exit) ≡ wrote (now (pen .entry)) (rows-text (store (now (pools .entry))) c rows)) ⌝ }
 {
     for k in 0..rows.len {
@@ -132,7 +132,7 @@ fn put_rows(pools: &Pools<'_>, pen: &mut Pen<'_>, place: usize, rows: Part, leve
 // A row of each of some columns that lie one after the other, with commas between.
 fn put_fields(pools: &Pools<'_>, pen: &mut Pen<'_>, first: usize, count: u8, row: usize, levels: u8)
     requires ready { ⌜ Ready (now pools) ⌝ }
-    requires given { ⌜ ((cs : Columns) × Fields-readable (store (now pools)) first cs count row levels) ⌝ }
+    requires given { ⌜ ∥ ((cs : Columns) × Fields-readable (store (now pools)) first cs count row levels) ∥₁ ⌝ }
     ensures { λ _. ⌜ ((cs : Columns) → Fields-readable (store (now (pools .entry))) first cs count row levels → now (pen .exit) ≡ wrote (now (pen .entry)) (fields-text (store (now (pools .entry))) cs row)) ⌝ }
 {
     let mut place = first;

@@ -10,25 +10,26 @@ use Rattle.filing.specs.Row.{spans-of}
 use Rattle.filing.specs.Counts.{children-in}
 use Rattle.filing.specs.Filed.{takes-all, Filed}
 use Rattle.filing.proofs.Spanning.{spans-length}
-use Rattle.filing.proofs.Accepting.{told, spans-low, no-columns, with-columns, kept-column, fits-column, shown}
+use Rattle.filing.proofs.Plain.{plain}
+use Rattle.filing.proofs.Accepting.{told, no-columns, with-columns, kept-column, fits-column, shown}
 use Rattle.filing.proofs.store.store_by.Needs as need
 
 pub fill-spans-requires : need.fill-spans-requires
 fill-spans-requires c κs =
-    let t = told (c .args .pools .now) (c .pre .accepted .1) (c .pre .accepted .0) (c .args .parcel .now) (c .args .drafts .now) (c .pre .ready) (c .pre .drafted) (c .pre .accepted .2) in
+    let t = plain (c .args .pools .now) (c .args .parcel .now) (c .args .drafts .now) (c .pre .ready) (c .pre .drafted) (c .pre .few) (c .pre .accepted) in
     record {
       same = omega (arith, length-take (length (c .args .drafts .now) - 0) (c .args .table .now), c .pre .table);
       low = c .pre .few;
-      few = spans-low (c .args .pools .now) (c .args .parcel .now) (c .args .drafts .now) (t .c) (t .listed) (c .pre .few);
+      few = t .low;
     }
 
 pub append-requires : need.append-requires
 append-requires c κs =
-    told (c .args .pools .now) (c .pre .accepted .1) (c .pre .accepted .0) (c .args .parcel .now) (c .args .drafts .now) (c .pre .ready) (c .pre .drafted) (c .pre .accepted .2) .column-room
+    plain (c .args .pools .now) (c .args .parcel .now) (c .args .drafts .now) (c .pre .ready) (c .pre .drafted) (c .pre .few) (c .pre .accepted) .column-room
 
 pub put-nodes-requires : need.put-nodes-requires
 put-nodes-requires c κs =
-    let t = told (c .args .pools .now) (c .pre .accepted .1) (c .pre .accepted .0) (c .args .parcel .now) (c .args .drafts .now) (c .pre .ready) (c .pre .drafted) (c .pre .accepted .2) in
+    let t = plain (c .args .pools .now) (c .args .parcel .now) (c .args .drafts .now) (c .pre .ready) (c .pre .drafted) (c .pre .few) (c .pre .accepted) in
     let e : ColumnEntry = record { root = c .args .pools .now .nodes .mark } in
     record {
       ready = ready-after (kept-column (c .args .pools .now) (c .append .last .self) e (c .pre .ready) (t .column-room) (c .append .ensures));
@@ -42,7 +43,7 @@ put-nodes-requires c κs =
 pub returns : need.returns
 returns c =
     let e : ColumnEntry = record { root = c .args .pools .now .nodes .mark } in
-    let t = told (c .args .pools .now) (c .pre .accepted .1) (c .pre .accepted .0) (c .args .parcel .now) (c .args .drafts .now) (c .pre .ready) (c .pre .drafted) (c .pre .accepted .2) in
+    let t = plain (c .args .pools .now) (c .args .parcel .now) (c .args .drafts .now) (c .pre .ready) (c .pre .drafted) (c .pre .few) (c .pre .accepted) in
     let filed : Filed (with-columns (c .args .pools .now) (c .append .last .self)) (c .put-nodes .last .pools) (c .args .parcel .now) (c .args .drafts .now) (spans-of (map children-in (c .args .drafts .now))) =
     subst (λ (l : List ℕ). Filed (with-columns (c .args .pools .now) (c .append .last .self)) (c .put-nodes .last .pools) (c .args .parcel .now) (c .args .drafts .now) l) (c .fill-spans .ensures) (c .put-nodes .ensures) in
     record {

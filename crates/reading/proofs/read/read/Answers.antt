@@ -1,3 +1,5 @@
+use mathlib.Core.Logic.{∥∥₁-elim, ∥∥₁-map}
+use native.Mathlib.Bridge.{le-prop}
 use mathlib.Core.Path.{_≡_, refl, sym, ap, _∙_, subst}
 use mathlib.Core.List.{List}
 use Prim.Native.Nat.{ℕ, _≤_, _<_}
@@ -32,10 +34,11 @@ get-root-requires c κs =
 
 pub has-row-requires : need.has-row-requires
 has-row-requires c κs =
-    let P = store (c .args .pools .now) in let j = c .args .column in let s = c .pre .given .0 in let r = c .pre .given .1 in
-    let l = known-column (c .args .pools .now) s j (c .pre .ready) r (sym (c .has-column .ensures) ∙ c .if-not-has-column .left) in
+    let P = store (c .args .pools .now) in let j = c .args .column in
     let root : c .get-root .result .root ≡ root-of P j = ap (λ (x : ColumnEntry). x .root) (c .get-root .ensures no-entry) in
-    let k = root-known j r l in omega arith
+    ∥∥₁-elim (c .pre .given) le-prop (λ g.
+    let l = known-column (c .args .pools .now) (g .0) j (c .pre .ready) (g .1) (sym (c .has-column .ensures) ∙ c .if-not-has-column .left) in
+    let k = root-known j (g .1) l in omega arith)
 
 pub returns-then-not-has-row : need.returns-then-not-has-row
 returns-then-not-has-row c = λ ls s r.
@@ -47,12 +50,16 @@ returns-then-not-has-row c = λ ls s r.
 
 pub row-text-requires : need.row-text-requires
 row-text-requires c κs =
-    let s = c .pre .given .0 in let r = c .pre .given .1 in
     let P = store (c .args .pools .now) in let j = c .args .column in let i = c .args .row in
-    let l = known-column (c .args .pools .now) s j (c .pre .ready) r (sym (c .has-column .ensures) ∙ c .if-not-has-column .left) in
     let root : c .get-root .result .root ≡ root-of P j = ap (λ (x : ColumnEntry). x .root) (c .get-root .ensures no-entry) in
-    let h = row-there j i (c .get-root .result .root) r l root (c .has-row .ensures) (c .if-not-has-row .left) in
-    record { ready = c .pre .ready; given = (column-at s j, subst (λ k. Row-readable P k (column-at s j) i most-levels) (sym root) (row-readable j i r l h)) }
+    record {
+      ready = c .pre .ready;
+      given =
+          ∥∥₁-map (c .pre .given) (λ g.
+          let l = known-column (c .args .pools .now) (g .0) j (c .pre .ready) (g .1) (sym (c .has-column .ensures) ∙ c .if-not-has-column .left) in
+          let h = row-there j i (c .get-root .result .root) (g .1) l root (c .has-row .ensures) (c .if-not-has-row .left) in
+          (column-at (g .0) j, subst (λ k. Row-readable P k (column-at (g .0) j) i most-levels) (sym root) (row-readable j i (g .1) l h)));
+    }
 
 pub returns-in-Some : need.returns-in-Some
 returns-in-Some c = λ ls s r.

@@ -1,5 +1,8 @@
 use mathlib.Core.Path.{_≡_, refl, sym, ap, _∙_, subst}
 use mathlib.Core.Bool.{true, false}
+use mathlib.Core.Logic.{∥∥₁-elim, ∥∥₁-map}
+use native.Mathlib.Bridge.{le-prop}
+use Rattle.reading.proofs.Props.{mask-there-prop, leaf-in-prop, range-there-prop, ends-in-prop}
 use mathlib.Core.List.{List, [], _∷_, _++_}
 use Prim.Native.Nat.{ℕ, _+_, _-_, _<_, _≤_}
 use native.Mathlib.Omega.{arith}
@@ -29,15 +32,14 @@ put-fields-returns-then-pen t c = λ cs r. let w = c .loop-k .inv cs r in sym (w
 
 pub put-fields-put-row-requires : need.put-fields-put-row-requires
 put-fields-put-row-requires t c κs =
-    let w = c .loop-k .inv (c .pre .given .0) (c .pre .given .1) in
     let l = c .loop-k-test .taken in
-    (omega arith, (c .pre .ready, (first (w .left), field-first (w .left) (omega arith) (w .readable))))
+    let m : c .args .levels < c .args .levels + 1 = omega arith in
+    (omega arith, (c .pre .ready, ∥∥₁-map (c .pre .given) (λ g. let w = c .loop-k .inv (g .0) (g .1) in (first (w .left), field-first (w .left) (let n = w .readable .count-is in omega arith) (w .readable)))))
 
 pub put-fields-next-child-place-requires : need.put-fields-next-child-place-requires
 put-fields-next-child-place-requires t c κs =
-    let w = c .loop-k .inv (c .pre .given .0) (c .pre .given .1) in
     let l = c .loop-k-test .taken in
-    record { standing = c .pre .ready .nodes; there = known (first (w .left)) (field-first (w .left) (omega arith) (w .readable) .column) }
+    record { standing = c .pre .ready .nodes; there = ∥∥₁-elim (c .pre .given) le-prop (λ g. let w = c .loop-k .inv (g .0) (g .1) in known (first (w .left)) (field-first (w .left) (let n = w .readable .count-is in omega arith) (w .readable) .column)) }
 
 pub put-fields-loop-k-again : need.put-fields-loop-k-again
 put-fields-loop-k-again t c = λ cs r.
@@ -53,11 +55,12 @@ put-fields-returns t c = λ cs r. fields-end (c .loop-k .pen) cs (c .loop-k-test
 
 -- A row.
 pub put-row-node-at-node-requires : need.put-row-node-at-node-requires
-put-row-node-at-node-requires t c κs = known (c .pre .given .0) (c .pre .given .1 .column)
+put-row-node-at-node-requires t c κs = ∥∥₁-elim (c .pre .given) le-prop (λ g. known (g .0) (g .1 .column))
 
 pub put-row-is-null-requires : need.put-row-is-null-requires
 put-row-is-null-requires t c κs =
-    subst (λ (x : Entry). Mask-there (store (c .args .pools .now) .bytes) (x .mask) (c .args .row)) (sym (c .node-at-node .ensures .is)) (mask-there (c .pre .given .0) (c .pre .given .1))
+    ∥∥₁-elim (c .pre .given) (mask-there-prop (store (c .args .pools .now) .bytes) (c .node-at-node .result .mask) (c .args .row))
+    (λ g. subst (λ (x : Entry). Mask-there (store (c .args .pools .now) .bytes) (x .mask) (c .args .row)) (sym (c .node-at-node .ensures .is)) (mask-there (g .0) (g .1)))
 
 pub put-row-returns-then-is-null : need.put-row-returns-then-is-null
 put-row-returns-then-is-null t c = λ d q.
@@ -69,7 +72,9 @@ put-row-leaf-requires t c κs =
     let e = c .node-at-node .ensures .is in
     record {
       ready = c .pre .ready;
-      within = subst (λ (x : Entry). Leaf-in (store (c .args .pools .now)) x (x .kind) (c .args .row)) (sym e) (leaf-there (c .pre .given .0) (c .pre .given .1) (shape-at (store (c .args .pools .now)) (c .args .place) e (c .in-Leaf .ensures tt)));
+      within =
+          ∥∥₁-elim (c .pre .given) (leaf-in-prop (store (c .args .pools .now)) (c .node-at-node .result) (c .node-at-node .result .kind) (c .args .row))
+          (λ g. subst (λ (x : Entry). Leaf-in (store (c .args .pools .now)) x (x .kind) (c .args .row)) (sym e) (leaf-there (g .0) (g .1) (shape-at (store (c .args .pools .now)) (c .args .place) e (c .in-Leaf .ensures tt))));
     }
 
 pub put-row-returns-in-Leaf : need.put-row-returns-in-Leaf
@@ -82,27 +87,27 @@ put-row-returns-in-Leaf t c = λ d q.
 pub put-row-range-at-rows-requires : need.put-row-range-at-rows-requires
 put-row-range-at-rows-requires t c κs =
     let e = c .node-at-node .ensures .is in
-    subst (λ (x : Entry). Range-there (store (c .args .pools .now) .offsets) (x .kind) (x .place) (c .args .row)) (sym e) (range-there (c .pre .given .0) (c .pre .given .1) (shape-at (store (c .args .pools .now)) (c .args .place) e (c .in-Ranges .ensures tt)))
+    ∥∥₁-elim (c .pre .given) (range-there-prop (store (c .args .pools .now) .offsets) (c .node-at-node .result .kind) (c .node-at-node .result .place) (c .args .row))
+    (λ g. subst (λ (x : Entry). Range-there (store (c .args .pools .now) .offsets) (x .kind) (x .place) (c .args .row)) (sym e) (range-there (g .0) (g .1) (shape-at (store (c .args .pools .now)) (c .args .place) e (c .in-Ranges .ensures tt))))
 
 pub put-row-add-place : need.put-row-add-place
-put-row-add-place t c = let k = known (c .pre .given .0) (c .pre .given .1 .column) in let f = few (c .args .pools .now .nodes) (c .pre .ready .nodes) in omega arith
+put-row-add-place t c = let k : c .args .place < length (store (c .args .pools .now) .nodes) = ∥∥₁-elim (c .pre .given) le-prop (λ g. known (g .0) (g .1 .column)) in let f = few (c .args .pools .now .nodes) (c .pre .ready .nodes) in omega arith
 
 pub put-row-sub-levels : need.put-row-sub-levels
-put-row-sub-levels t c = deep (c .pre .given .0) (c .pre .given .1 .column)
+put-row-sub-levels t c = ∥∥₁-elim (c .pre .given) le-prop (λ g. deep (g .0) (g .1 .column))
 
 pub put-row-put-rows-requires : need.put-row-put-rows-requires
 put-row-put-rows-requires t c κs =
     let e = c .node-at-node .ensures .is in
-    let g = c .pre .given in
-    let d = deep (g .0) (g .1 .column) in (
+    let d = ∥∥₁-elim (c .pre .given) le-prop (λ g. deep (g .0) (g .1 .column)) in (
       omega arith,
       (
         c .pre .ready,
-        (
+        ∥∥₁-map (c .pre .given) (λ g. (
           first (children (g .0)),
           subst (λ (p : Part). Rows-readable (store (c .args .pools .now)) (c .args .place + 1) (first (children (g .0))) p (c .args .levels - 1)) (part-at (store (c .args .pools .now)) (c .args .place) (c .args .row) e (c .range-at-rows .ensures .is))
               (rows-given (g .0) (g .1) (shape-at (store (c .args .pools .now)) (c .args .place) e (c .in-Ranges .ensures tt))),
-        ),
+        )),
       ),
     )
 
@@ -122,24 +127,23 @@ put-row-returns-in-Ranges t c = λ d q.
     ∙ ap (wrote (c .args .pen .now)) (sym (ranges-row d q (null-at (store (c .args .pools .now)) (c .args .place) (c .args .row) true e (c .is-null .ensures) (c .if-is-null .left)) s))
 
 pub put-row-add-place-in-Fields : need.put-row-add-place-in-Fields
-put-row-add-place-in-Fields t c = let k = known (c .pre .given .0) (c .pre .given .1 .column) in let f = few (c .args .pools .now .nodes) (c .pre .ready .nodes) in omega arith
+put-row-add-place-in-Fields t c = let k : c .args .place < length (store (c .args .pools .now) .nodes) = ∥∥₁-elim (c .pre .given) le-prop (λ g. known (g .0) (g .1 .column)) in let f = few (c .args .pools .now .nodes) (c .pre .ready .nodes) in omega arith
 
 pub put-row-sub-levels-in-Fields : need.put-row-sub-levels-in-Fields
-put-row-sub-levels-in-Fields t c = deep (c .pre .given .0) (c .pre .given .1 .column)
+put-row-sub-levels-in-Fields t c = ∥∥₁-elim (c .pre .given) le-prop (λ g. deep (g .0) (g .1 .column))
 
 pub put-row-put-fields-requires : need.put-row-put-fields-requires
 put-row-put-fields-requires t c κs =
     let e = c .node-at-node .ensures .is in
-    let g = c .pre .given in
-    let d = deep (g .0) (g .1 .column) in (
+    let d = ∥∥₁-elim (c .pre .given) le-prop (λ g. deep (g .0) (g .1 .column)) in (
       omega arith,
       (
         c .pre .ready,
-        (
+        ∥∥₁-map (c .pre .given) (λ g. (
           children (g .0),
           subst (λ (x : Entry). Fields-readable (store (c .args .pools .now)) (c .args .place + 1) (children (g .0)) (x .children) (c .args .row) (c .args .levels - 1)) (sym e)
               (fields-given (g .0) (g .1) (shape-at (store (c .args .pools .now)) (c .args .place) e (c .in-Fields .ensures tt))),
-        ),
+        )),
       ),
     )
 
@@ -156,42 +160,44 @@ put-row-returns-in-Fields t c = λ d q.
     ∙ ap (wrote (c .args .pen .now)) (sym (fields-row d q (null-at (store (c .args .pools .now)) (c .args .place) (c .args .row) true e (c .is-null .ensures) (c .if-is-null .left)) s))
 
 pub put-row-add-place-in-Runs : need.put-row-add-place-in-Runs
-put-row-add-place-in-Runs t c = let k = known (c .pre .given .0) (c .pre .given .1 .column) in let f = few (c .args .pools .now .nodes) (c .pre .ready .nodes) in omega arith
+put-row-add-place-in-Runs t c = let k : c .args .place < length (store (c .args .pools .now) .nodes) = ∥∥₁-elim (c .pre .given) le-prop (λ g. known (g .0) (g .1 .column)) in let f = few (c .args .pools .now .nodes) (c .pre .ready .nodes) in omega arith
 
 pub put-row-add-place-in-Runs-2 : need.put-row-add-place-in-Runs-2
-put-row-add-place-in-Runs-2 t c = let k = known (c .pre .given .0) (c .pre .given .1 .column) in let f = few (c .args .pools .now .nodes) (c .pre .ready .nodes) in omega arith
+put-row-add-place-in-Runs-2 t c = let k : c .args .place < length (store (c .args .pools .now) .nodes) = ∥∥₁-elim (c .pre .given) le-prop (λ g. known (g .0) (g .1 .column)) in let f = few (c .args .pools .now .nodes) (c .pre .ready .nodes) in omega arith
 
 pub put-row-run-at-entry-requires : need.put-row-run-at-entry-requires
 put-row-run-at-entry-requires t c κs =
     let s = shape-at (store (c .args .pools .now)) (c .args .place) (c .node-at-node .ensures .is) (c .in-Runs .ensures tt) in
-    let g = c .pre .given in
-    record { ready = c .pre .ready; there = stored-node _ _ (first (children (g .0))) (ends-stored (g .0) (g .1) s) .0; climb = ends-there (g .0) (g .1) s }
+    record {
+      ready = c .pre .ready;
+      there = ∥∥₁-elim (c .pre .given) le-prop (λ g. stored-node (store (c .args .pools .now)) (c .args .place + 1) (first (children (g .0))) (ends-stored (g .0) (g .1) s) .0);
+      climb =
+          ∥∥₁-elim (c .pre .given) (ends-in-prop (store (c .args .pools .now)) (node-entry (store (c .args .pools .now)) (c .args .place + 1)) (node-entry (store (c .args .pools .now)) (c .args .place + 1) .kind))
+          (λ g. ends-there (g .0) (g .1) s);
+    }
 
 pub put-row-next-child-values-requires : need.put-row-next-child-values-requires
 put-row-next-child-values-requires t c κs =
     let s = shape-at (store (c .args .pools .now)) (c .args .place) (c .node-at-node .ensures .is) (c .in-Runs .ensures tt) in
-    let g = c .pre .given in
-    record { standing = c .pre .ready .nodes; there = stored-node (store (c .args .pools .now)) (c .args .place + 1) (first (children (g .0))) (ends-stored (g .0) (g .1) s) .0 }
+    record { standing = c .pre .ready .nodes; there = ∥∥₁-elim (c .pre .given) le-prop (λ g. stored-node (store (c .args .pools .now)) (c .args .place + 1) (first (children (g .0))) (ends-stored (g .0) (g .1) s) .0) }
 
 pub put-row-sub-levels-in-Runs : need.put-row-sub-levels-in-Runs
-put-row-sub-levels-in-Runs t c = deep (c .pre .given .0) (c .pre .given .1 .column)
+put-row-sub-levels-in-Runs t c = ∥∥₁-elim (c .pre .given) le-prop (λ g. deep (g .0) (g .1 .column))
 
 pub put-row-put-row-requires : need.put-row-put-row-requires
 put-row-put-row-requires t c κs =
     let P = store (c .args .pools .now) in
     let s = shape-at (store (c .args .pools .now)) (c .args .place) (c .node-at-node .ensures .is) (c .in-Runs .ensures tt) in
-    let g = c .pre .given in
-    let d = deep (g .0) (g .1 .column) in
-    let two = two-children (g .0) (g .1) s in (
+    let d = ∥∥₁-elim (c .pre .given) le-prop (λ g. deep (g .0) (g .1 .column)) in (
       omega arith,
       (
         c .pre .ready,
-        (
+        ∥∥₁-map (c .pre .given) (λ g. let two = two-children (g .0) (g .1) s in (
           nth (children (g .0)) 1,
           subst (λ i. Row-readable P (c .next-child-values .result) (nth (children (g .0)) 1) i (c .args .levels - 1)) (sym (c .run-at-entry .ensures))
               (run-given (g .0) (c .next-child-values .result) (g .1) s
               (c .next-child-values .ensures .told P (children (g .0)) refl (omega arith) (stored-children P (c .args .place) (g .0) (g .1 .column .stored)) .1)),
-        ),
+        )),
       ),
     )
 
@@ -216,13 +222,13 @@ put-rows-returns-then-pen t c = λ d r. sym (wrote-full (c .loop-k .pen) (rows-l
 
 pub put-rows-row-of-requires : need.put-rows-row-of-requires
 put-rows-row-of-requires t c κs =
-    let g = c .pre .given in
+    ∥∥₁-elim (c .pre .given) le-prop (λ g.
     let f = held (g .0) (g .1 .column) .few-rows in
     let r = g .1 .rows-in in
-    let l = c .loop-k-test .taken in omega arith
+    let l = c .loop-k-test .taken in omega arith)
 
 pub put-rows-put-row-requires : need.put-rows-put-row-requires
-put-rows-put-row-requires t c κs = (omega arith, (c .pre .ready, (c .pre .given .0, subst (λ i. Row-readable (store (c .args .pools .now)) (c .args .place) (c .pre .given .0) i (c .args .levels)) (sym (c .row-of .ensures)) (row-of-rows (c .loop-k .k) (c .loop-k-test .taken) (c .pre .given .1)))))
+put-rows-put-row-requires t c κs = (omega arith, (c .pre .ready, ∥∥₁-map (c .pre .given) (λ g. (g .0, subst (λ i. Row-readable (store (c .args .pools .now)) (c .args .place) (g .0) i (c .args .levels)) (sym (c .row-of .ensures)) (row-of-rows (c .loop-k .k) (c .loop-k-test .taken) (g .1))))))
 
 pub put-rows-loop-k-again : need.put-rows-loop-k-again
 put-rows-loop-k-again t c = λ d r.

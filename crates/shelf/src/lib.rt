@@ -1,0 +1,3 @@
+// The shelf: the calls, and the memory that it is lent.
+pub mod owner;
+pub mod shelf;
