@@ -1,2 +1,3 @@
 pub mod Fresh
 pub mod Nexts
+pub mod Standing

@@ -1,15 +1,19 @@
 // The calls.
+ghost use mathlib.Core.Path.{_≡_};
 ghost use mathlib.Core.List.{[]};
 ghost use lib.ListN.{length};
+ghost use Rattle.pools.specs.Marked.{marked, no-marks};
 ghost use Rattle.shelf.specs.Stands.{Stands};
 use crate::owner::Shelf;
 use pools::pools::Marks;
 use pools::pools::Pools;
 
 impl<'a> Shelf<'a> {
-    // A fresh shelf over pools of any length and content: no call has been made.
+    // A fresh shelf over pools of any length and content, no call made yet: it holds what it is lent, every mark at 0.
     pub fn new(pools: Pools<'a>, slip: &'a mut [(u16, u32)]) -> Shelf<'a>
-        ensures { λ r. ⌜ Stands [] (r .pools) (length (now (r .slip))) ⌝ }
+        ensures stands { λ r. ⌜ Stands [] (r .pools) (length (now (r .slip))) ⌝ }
+        ensures lent { λ r. ⌜ r .pools ≡ marked no-marks (pools .entry) ⌝ }
+        ensures slip_lent { λ r. ⌜ r .slip ≡ slip .entry ⌝ }
     {
         let mut pools = pools;
         pools.resume(Marks {

@@ -1,4 +1,4 @@
-use mathlib.Core.Path.{sym, subst}
+use mathlib.Core.Path.{refl, sym, subst}
 use mathlib.Core.List.{[]}
 use lib.ListN.{length}
 use denote.Ref.{now}
@@ -7,7 +7,12 @@ use Rattle.shelf.proofs.Fresh.{fresh-stands}
 use Rattle.shelf.proofs.owner.Shelf.new.Needs as need
 
 pub returns : need.returns
-returns c = subst (λ p. Stands [] p (length (now (c .args .slip)))) (sym (c .resume .ensures)) (fresh-stands (c .args .pools) (length (now (c .args .slip))))
+returns c =
+    record {
+      stands = subst (λ p. Stands [] p (length (now (c .args .slip)))) (sym (c .resume .ensures)) (fresh-stands (c .args .pools) (length (now (c .args .slip))));
+      lent = c .resume .ensures;
+      slip-lent = refl;
+    }
 
 pub ghost-result : need.ghost-result
 ghost-result c = (∣ ([], subst (λ p. Stands [] p (length (now (c .args .slip)))) (sym (c .resume .ensures)) (fresh-stands (c .args .pools) (length (now (c .args .slip))))) ∣₁, tt)
