@@ -152,7 +152,7 @@ fn add(a: Entries, b: Entries) -> Entries
 }
 
 // What the drafts of a parcel need, and one column.
-pub fn needs(parcel: &[u8], drafts: &[Draft]) -> Entries
+pub(crate) fn needs(parcel: &[u8], drafts: &[Draft]) -> Entries
     requires { ⌜ All (Drafted (now parcel)) (now drafts) ⌝ ∗ ⌜ length (now drafts) ≤ 256 ⌝ }
     ensures { λ r. ⌜ listed r ≡ plus one-column (drafts-need (now (parcel .entry)) (now (drafts .entry))) ⌝ }
 {

@@ -9,7 +9,7 @@ use pools::pool::Pool;
 use pools::records::Part;
 
 // Adds a part's bytes, and says where they lie.
-pub fn copy_part(bytes: &mut Pool<'_, u8>, parcel: &[u8], part: Part) -> Part
+pub(crate) fn copy_part(bytes: &mut Pool<'_, u8>, parcel: &[u8], part: Part) -> Part
     requires room { ⌜ Fit (now bytes) (part .len) ⌝ }
     requires inside { ⌜ Within (now parcel) part ⌝ }
     ensures added { λ _. ⌜ Gains (now (bytes .entry)) (within (now (parcel .entry)) part) (now (bytes .exit)) ⌝ }
@@ -42,7 +42,7 @@ fn put_mask(bytes: &mut Pool<'_, u8>, parcel: &[u8], mask: Option<Part>) -> Opti
 }
 
 // Adds a node's format, its mask, and the part that is taken as it is, and says where each lies.
-pub fn put_bytes(
+pub(crate) fn put_bytes(
     bytes: &mut Pool<'_, u8>,
     parcel: &[u8],
     format: Part,

@@ -42,7 +42,12 @@ fn number_at(parcel: &[u8], at: usize, next: usize) -> (u32, usize, usize)
 }
 
 // Adds the numbers of a node's data buffers, new ones being numbered from `first` on, and says where they lie.
-pub fn put_numbers(lists: &mut Pool<'_, u32>, parcel: &[u8], lent: Part, first: usize) -> Part
+pub(crate) fn put_numbers(
+    lists: &mut Pool<'_, u32>,
+    parcel: &[u8],
+    lent: Part,
+    first: usize,
+) -> Part
     requires inside { ⌜ readable (now parcel) (lent .start) (lent .len) ≡ true ⌝ }
     requires room { ⌜ Fit (now lists) (lent .len) ⌝ }
     requires few { ⌜ first + length (brought-from (now parcel) (lent .start) (lent .len)) ≤ 1048576 ⌝ }
@@ -88,7 +93,7 @@ fn put_buffer(
 }
 
 // Adds the data buffers that a node brings, one after another.
-pub fn put_brought(
+pub(crate) fn put_brought(
     bytes: &mut Pool<'_, u8>,
     buffers: &mut Pool<'_, Part>,
     parcel: &[u8],

@@ -17,7 +17,7 @@ use pools::pools::Pools;
 use pools::records::Node;
 
 // Adds all that a node holds, and its entry; `span` counts the nodes of its subtree.
-pub fn put_node(pools: &mut Pools<'_>, parcel: &[u8], draft: Draft, span: u16)
+pub(crate) fn put_node(pools: &mut Pools<'_>, parcel: &[u8], draft: Draft, span: u16)
     requires room { ⌜ Room (now pools) (node-news (now parcel) draft span (marks-of (now pools))) ⌝ }
     requires drafted { ⌜ Drafted (now parcel) draft ⌝ }
     requires filled { ⌜ Filled draft ⌝ }

@@ -11,7 +11,7 @@ use parcels::draft::Draft;
 use pools::pools::Pools;
 
 // Adds each draft in turn, with the number of nodes of its subtree.
-pub fn put_nodes(pools: &mut Pools<'_>, parcel: &[u8], drafts: &[Draft], spans: &[u16])
+pub(crate) fn put_nodes(pools: &mut Pools<'_>, parcel: &[u8], drafts: &[Draft], spans: &[u16])
     requires ready { ⌜ Ready (now pools) ⌝ }
     requires drafted { ⌜ All (Drafted (now parcel)) (now drafts) ⌝ }
     requires filled { ⌜ All Filled (now drafts) ⌝ }

@@ -22,7 +22,7 @@ pub struct Plan {
     pub list: Part,
 }
 
-pub fn plan_for(kind: Kind, parts: Parts, rows: usize) -> Plan
+pub(crate) fn plan_for(kind: Kind, parts: Parts, rows: usize) -> Plan
     requires { ⌜ rows < 4294967296 ⌝ }
     ensures { λ r. ⌜ r ≡ plan-of kind parts rows ⌝ }
 {

@@ -38,7 +38,7 @@ fn long_at(parcel: &[u8], at: usize) -> u64
 }
 
 // Adds so many values of two bytes.
-pub fn put_shorts(shorts: &mut Pool<'_, u16>, parcel: &[u8], body: Part, count: usize)
+pub(crate) fn put_shorts(shorts: &mut Pool<'_, u16>, parcel: &[u8], body: Part, count: usize)
     requires room { ⌜ Fit (now shorts) count ⌝ }
     requires inside { ⌜ Within (now parcel) body ⌝ }
     requires filled { ⌜ 2 * count ≤ body .len ⌝ }
@@ -50,7 +50,7 @@ pub fn put_shorts(shorts: &mut Pool<'_, u16>, parcel: &[u8], body: Part, count: 
 }
 
 // Adds so many values of four bytes.
-pub fn put_words(words: &mut Pool<'_, u32>, parcel: &[u8], body: Part, count: usize)
+pub(crate) fn put_words(words: &mut Pool<'_, u32>, parcel: &[u8], body: Part, count: usize)
     requires room { ⌜ Fit (now words) count ⌝ }
     requires inside { ⌜ Within (now parcel) body ⌝ }
     requires filled { ⌜ 4 * count ≤ body .len ⌝ }
@@ -62,7 +62,7 @@ pub fn put_words(words: &mut Pool<'_, u32>, parcel: &[u8], body: Part, count: us
 }
 
 // Adds so many values of eight bytes.
-pub fn put_longs(longs: &mut Pool<'_, u64>, parcel: &[u8], body: Part, count: usize)
+pub(crate) fn put_longs(longs: &mut Pool<'_, u64>, parcel: &[u8], body: Part, count: usize)
     requires room { ⌜ Fit (now longs) count ⌝ }
     requires inside { ⌜ Within (now parcel) body ⌝ }
     requires filled { ⌜ 8 * count ≤ body .len ⌝ }
@@ -86,7 +86,13 @@ fn put_widened(longs: &mut Pool<'_, u64>, parcel: &[u8], body: Part, count: usiz
 }
 
 // Adds so many offsets, of eight bytes where they are wide, else of four.
-pub fn put_offsets(offsets: &mut Pool<'_, u64>, parcel: &[u8], body: Part, count: usize, wide: bool)
+pub(crate) fn put_offsets(
+    offsets: &mut Pool<'_, u64>,
+    parcel: &[u8],
+    body: Part,
+    count: usize,
+    wide: bool,
+)
     requires room { ⌜ Fit (now offsets) count ⌝ }
     requires inside { ⌜ Within (now parcel) body ⌝ }
     requires filled { ⌜ wide-bytes wide * count ≤ body .len ⌝ }
@@ -100,7 +106,7 @@ pub fn put_offsets(offsets: &mut Pool<'_, u64>, parcel: &[u8], body: Part, count
 }
 
 // Adds so many views of 16 bytes, each by its halves.
-pub fn put_views(views: &mut Pool<'_, View>, parcel: &[u8], body: Part, count: usize)
+pub(crate) fn put_views(views: &mut Pool<'_, View>, parcel: &[u8], body: Part, count: usize)
     requires room { ⌜ Fit (now views) count ⌝ }
     requires inside { ⌜ Within (now parcel) body ⌝ }
     requires filled { ⌜ 16 * count ≤ body .len ⌝ }

@@ -28,7 +28,7 @@ fn span_at(spans: &[u16], at: usize, children: u8) -> u16
 }
 
 // Writes the size of each node, the last node's first.
-pub fn fill_spans(spans: &mut [u16], drafts: &[Draft])
+pub(crate) fn fill_spans(spans: &mut [u16], drafts: &[Draft])
     requires same { ⌜ length (now drafts) ≡ length (now spans) ⌝ }
     requires low { ⌜ length (now drafts) ≤ 256 ⌝ }
     requires few { ⌜ All (λ (s : ℕ). s ≤ 256) (spans-of (map children-in (now drafts))) ⌝ }

@@ -32,7 +32,7 @@ fn format_at<'a>(parcel: &'a [u8], part: Part) -> Option<Format<'a>>
 }
 
 // A node but for its children.
-pub fn begin<'a>(
+pub(crate) fn begin<'a>(
     parcel: &'a [u8],
     place: Place,
     levels: u8,

@@ -16,7 +16,7 @@ use denials::Denial;
 use pools::records::Part;
 
 // The place after an item of n bytes.
-pub fn item(parcel: &[u8], place: Place, n: usize) -> Result<Place, Denial>
+pub(crate) fn item(parcel: &[u8], place: Place, n: usize) -> Result<Place, Denial>
     requires { ⌜ place .at ≤ length (now parcel) ⌝ }
     ensures { λ r. ⌜ elim r [
       | Ok q ↦ (q ≡ stepped place n) × (place .at + n ≤ length (now (parcel .entry)))
@@ -49,7 +49,7 @@ pub fn length_of(ahead: &[u8]) -> Option<usize>
 }
 
 // A buffer follows its byte length.
-pub fn buffer(parcel: &[u8], place: Place) -> Result<(Part, Place), Denial>
+pub(crate) fn buffer(parcel: &[u8], place: Place) -> Result<(Part, Place), Denial>
     requires { ⌜ Fair (now parcel) place ⌝ }
     ensures reads { λ r. ⌜ ((bs : List (List ℕ)) → outcome (λ x. within (now (parcel .entry)) (x .0)) (λ x. placed (now (parcel .entry)) (x .1) bs) r ≡ bufferRead (placed (now (parcel .entry)) place bs)) ⌝ }
     ensures inside { λ r. ⌜ elim r [ Ok x ↦ Kept (now (parcel .entry)) place (x .1) × Within (now (parcel .entry)) (x .0) × (x .0 .len < 4294967296) | Err _ ↦ Unit {0} ] ⌝ }
@@ -87,7 +87,7 @@ fn header(ahead: &[u8]) -> Option<Header>
 }
 
 // A node's 64 bits and its format string.
-pub fn head(parcel: &[u8], place: Place) -> Result<(Head, Place), Denial>
+pub(crate) fn head(parcel: &[u8], place: Place) -> Result<(Head, Place), Denial>
     requires { ⌜ Fair (now parcel) place ⌝ }
     ensures reads { λ r. ⌜ ((bs : List (List ℕ)) → outcome (λ x. headOf (now (parcel .entry)) (x .0)) (λ x. placed (now (parcel .entry)) (x .1) bs) r ≡ headRead (placed (now (parcel .entry)) place bs)) ⌝ }
     ensures inside { λ r. ⌜ elim r [ Ok x ↦ Kept (now (parcel .entry)) place (x .1) × Within (now (parcel .entry)) (x .0 .format) × (x .0 .format .len < 128) | Err _ ↦ Unit {0} ] ⌝ }

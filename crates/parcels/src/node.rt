@@ -33,7 +33,7 @@ fn more(below: Below, k: u8, rows: u32, own: u32) -> Below
 }
 
 // A node with its children; each is drafted at its number. The answer is its rows and the place after it.
-pub fn node(
+pub(crate) fn node(
     parcel: &[u8],
     place: Place,
     levels: u8,

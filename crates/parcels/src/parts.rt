@@ -43,7 +43,7 @@ fn mask_if(parcel: &[u8], place: Place, masked: bool) -> Result<(Option<Part>, P
 }
 
 // A data buffer is brought, or named by its number.
-pub fn data_buffer(parcel: &[u8], place: Place) -> Result<(Option<usize>, Place), Denial>
+pub(crate) fn data_buffer(parcel: &[u8], place: Place) -> Result<(Option<usize>, Place), Denial>
     requires { ⌜ Fair (now parcel) place ⌝ }
     ensures reads { λ r. ⌜ ((bs : List (List ℕ)) → elim r [
       | Ok x ↦ Reaches (now (parcel .entry)) place bs (x .1) (data-buffer (placed (now (parcel .entry)) place bs))
@@ -135,7 +135,7 @@ fn lent_if(parcel: &[u8], place: Place, wanted: bool) -> Result<(Part, Place), D
 }
 
 // The buffers of a node, in order: mask, first buffer, text, data buffers.
-pub fn parts_of(
+pub(crate) fn parts_of(
     parcel: &[u8],
     place: Place,
     masked: bool,

@@ -133,7 +133,7 @@ fn view_text(pools: &Pools<'_>, pen: &mut Pen<'_>, list: Part, view: View)
 }
 
 // The text of a row of a node without children.
-pub fn leaf(pools: &Pools<'_>, pen: &mut Pen<'_>, node: Node, row: usize)
+pub(crate) fn leaf(pools: &Pools<'_>, pen: &mut Pen<'_>, node: Node, row: usize)
     requires ready { ⌜ Ready (now pools) ⌝ }
     requires within { ⌜ Leaf-in (store (now pools)) node (node .kind) row ⌝ }
     ensures { λ _. ⌜ now (pen .exit) ≡ wrote (now (pen .entry)) (leaf-text (store (now (pools .entry))) node (node .kind) row) ⌝ }

@@ -55,7 +55,12 @@ fn write(pools: &Pools<'_>, place: usize, row: usize, text: &mut [u8]) -> usize
 }
 
 // The text of a row of the column at a place, written to the front of a buffer; or nothing where it is longer.
-pub fn row_text(pools: &Pools<'_>, place: usize, row: usize, text: &mut [u8]) -> Option<usize>
+pub(crate) fn row_text(
+    pools: &Pools<'_>,
+    place: usize,
+    row: usize,
+    text: &mut [u8],
+) -> Option<usize>
     requires ready { ⌜ Ready (now pools) ⌝ }
     requires given { ⌜ ∥ ((c : Column) × Row-readable (store (now pools)) place c row most-levels) ∥₁ ⌝ }
     ensures { λ r. ⌜ ((c : Column) → Row-readable (store (now (pools .entry))) place c row most-levels → Placed r (row-text (store (now (pools .entry))) c row) (now (text .entry)) (now (text .exit))) ⌝ }

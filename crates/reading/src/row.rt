@@ -83,7 +83,7 @@ fn row_of(rows: Part, k: usize) -> usize
 }
 
 // A row. A child has one level less.
-pub fn put_row(pools: &Pools<'_>, pen: &mut Pen<'_>, place: usize, row: usize, levels: u8)
+pub(crate) fn put_row(pools: &Pools<'_>, pen: &mut Pen<'_>, place: usize, row: usize, levels: u8)
     requires ready { ⌜ Ready (now pools) ⌝ }
     requires given { ⌜ ∥ ((c : Column) × Row-readable (store (now pools)) place c row levels) ∥₁ ⌝ }
     ensures { λ _. ⌜ ((c : Column) → Row-readable (store (now (pools .entry))) place c row levels → now (pen .exit) ≡ wrote (now (pen .entry)) (row-text (store (now (pools .entry))) c row)) ⌝ }

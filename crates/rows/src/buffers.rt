@@ -13,7 +13,7 @@ use pools::records::Node;
 use pools::records::Part;
 
 // The number of the data buffer at a position of a node's list.
-pub fn buffer_number(pools: &Pools<'_>, node: &Node, position: usize) -> usize
+pub(crate) fn buffer_number(pools: &Pools<'_>, node: &Node, position: usize) -> usize
     requires listed { ⌜ now node .buffers .start + position < length (store (now pools) .lists) ⌝ }
     requires small { ⌜ now node .buffers .start + position < 2 ^ 64 ⌝ }
     ensures { λ r. ⌜ r ≡ buffer-number (store (now (pools .entry))) (now (node .entry)) position ⌝ }

@@ -61,7 +61,7 @@ pub fn text_at(offsets: &Pool<'_, u64>, node: &Node, row: usize) -> Part
 }
 
 // A range of a part, as a part itself.
-pub fn inside(part: Part, range: Part) -> Part
+pub(crate) fn inside(part: Part, range: Part) -> Part
     requires { ⌜ part .start + range .start < 2 ^ 64 ⌝ }
     ensures { λ r. ⌜ r ≡ record { start = part .start + range .start; len = range .len } ⌝ }
 {

@@ -40,7 +40,7 @@ pub fn take_apart(view: View) -> ViewParts
 }
 
 // The view of a text that lies in a data buffer.
-pub fn buffered(len: u32, prefix: u32, position: u32, offset: u32) -> View
+pub(crate) fn buffered(len: u32, prefix: u32, position: u32, offset: u32) -> View
     requires { ⌜ 12 < len ⌝ }
     ensures is { λ r. ⌜ r ≡ record { low = len + 2 ^ 32 * prefix; high = position + 2 ^ 32 * offset } ⌝ }
     ensures told { λ r. ⌜ view-from r ≡ long len prefix position offset ⌝ }

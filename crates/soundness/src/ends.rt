@@ -12,7 +12,7 @@ use crate::values::value;
 use formats::format::Width;
 
 // Run ends start at 1 or above, climb strictly, and end at the top, which their signed width can hold.
-pub fn sound_ends(body: &[u8], width: Width, runs: usize, top: u64) -> bool
+pub(crate) fn sound_ends(body: &[u8], width: Width, runs: usize, top: u64) -> bool
     requires { ⌜ length (now body) ≡ bytes-of width * runs ⌝ ∗ ⌜ runs ≤ 1048576 ⌝ }
     ensures { λ r. ⌜ r ≡ (climbs 0 (values-in (bytes-of width) runs (now (body .entry))) top && leb top (highest (bytes-of width))) ⌝ }
 {

@@ -43,7 +43,7 @@ fn mask_filled(parcel: &[u8], mask: Option<Part>, rows: usize) -> bool
 }
 
 // The mask and the first buffer have exactly the bytes that the rows take.
-pub fn filled(parcel: &[u8], d: Draft) -> bool
+pub(crate) fn filled(parcel: &[u8], d: Draft) -> bool
     requires { ⌜ Drafted (now parcel) d ⌝ }
     ensures exact { λ r. ⌜ (r ≡ true → Filled d) ⌝ }
     ensures is { λ r. ⌜ ((ds : List Data) → r ≡ fills (kind-in (now (parcel .entry)) d) (head-in (now (parcel .entry)) d) (sentOf (now (parcel .entry)) (d .parts) ds)) ⌝ }

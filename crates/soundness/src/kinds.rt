@@ -49,7 +49,7 @@ fn views_within(parcel: &[u8], bytes: &[u8], buffers: &[Part], d: Draft) -> bool
 }
 
 // Whether a node is sound as its kind asks. Its buffers are filled, and the data buffers that it names were shelved before.
-pub fn kind_sound(parcel: &[u8], bytes: &[u8], buffers: &[Part], d: Draft) -> bool
+pub(crate) fn kind_sound(parcel: &[u8], bytes: &[u8], buffers: &[Part], d: Draft) -> bool
     requires { ⌜ Drafted (now parcel) d ⌝ ∗ ⌜ Filled d ⌝ ∗ ⌜ All (Within (now bytes)) (now buffers) ⌝ }
     ensures { λ r. ⌜ ((more : List (List ℕ)) → unshelved-in (length (now (buffers .entry))) (data-of (now (parcel .entry)) (buffers-in (now (bytes .entry)) (now (buffers .entry)) ++ more) d) ≡ none
         → r ≡ kind-sound-in (now (parcel .entry)) (buffers-in (now (bytes .entry)) (now (buffers .entry)) ++ more) d) ⌝ }

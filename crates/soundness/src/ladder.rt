@@ -32,7 +32,7 @@ fn beyond(parcel: &[u8], at: usize, before: usize) -> Option<usize>
 }
 
 // The first data buffer of a list that is sent by a number and was not shelved before.
-pub fn missing(parcel: &[u8], lent: Part, before: usize) -> Option<usize>
+pub(crate) fn missing(parcel: &[u8], lent: Part, before: usize) -> Option<usize>
     requires { ⌜ readable (now parcel) (lent .start) (lent .len) ≡ true ⌝ }
     ensures { λ r. ⌜ ((next : ℕ) → lifted (unshelved-in before (data-from (now (parcel .entry)) (lent .start) next (lent .len))) ≡ r) ⌝ }
 {

@@ -52,7 +52,7 @@ fn skip(parcel: &[u8], start: usize, count: usize) -> usize
 }
 
 // Where every so many-th of a node's data buffers stands, in one walk over them.
-pub fn places_of(parcel: &[u8], lent: Part) -> Places
+pub(crate) fn places_of(parcel: &[u8], lent: Part) -> Places
     requires { ⌜ readable (now parcel) (lent .start) (lent .len) ≡ true ⌝ ∗ ⌜ lent .len < 65536 ⌝ }
     ensures { λ r. ⌜ Indexed (now (parcel .entry)) lent r ⌝ }
 {
@@ -69,7 +69,7 @@ pub fn places_of(parcel: &[u8], lent: Part) -> Places
 }
 
 // The place of a data buffer by its position: at most 255 steps from the place before it that is known.
-pub fn find(parcel: &[u8], lent: Part, places: &Places, position: usize) -> usize
+pub(crate) fn find(parcel: &[u8], lent: Part, places: &Places, position: usize) -> usize
     requires { ⌜ readable (now parcel) (lent .start) (lent .len) ≡ true ⌝ ∗ ⌜ Indexed (now parcel) lent (now places) ⌝ ∗ ⌜ position < lent .len ⌝ ∗ ⌜ lent .len < 65536 ⌝ }
     ensures { λ r. ⌜ r ≡ place-of (now (parcel .entry)) (lent .start) position ⌝ }
 {
@@ -78,7 +78,7 @@ pub fn find(parcel: &[u8], lent: Part, places: &Places, position: usize) -> usiz
 }
 
 // The bytes of the data buffer at a place: shelved before, or brought here. A number that was not shelved has none.
-pub fn source<'a>(parcel: &'a [u8], bytes: &'a [u8], buffers: &[Part], at: usize) -> &'a [u8]
+pub(crate) fn source<'a>(parcel: &'a [u8], bytes: &'a [u8], buffers: &[Part], at: usize) -> &'a [u8]
     requires { ⌜ at + data-size (now parcel) at ≤ length (now parcel) ⌝ ∗ ⌜ All (Within (now bytes)) (now buffers) ⌝ }
     ensures { λ r. ⌜ now r ≡ source-at (now (parcel .entry)) (now (bytes .entry)) (now (buffers .entry)) at ⌝ }
 {

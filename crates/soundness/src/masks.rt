@@ -15,7 +15,7 @@ fn bit(bytes: &[u8], i: usize) -> bool
 }
 
 // No row is null by the mask.
-pub fn all_valid(mask: &[u8], rows: usize) -> bool
+pub(crate) fn all_valid(mask: &[u8], rows: usize) -> bool
     requires { ⌜ length (now mask) ≡ bytes-for rows ⌝ }
     ensures { λ r. ⌜ r ≡ not (some-null (bits-in rows (now (mask .entry)))) ⌝ }
 {

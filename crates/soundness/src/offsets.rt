@@ -18,7 +18,7 @@ fn within_bound(last: u64, width: Width, bound: u64) -> bool
 }
 
 // Offsets start at 0 or above, never fall, and end within the bound.
-pub fn sound_offsets(body: &[u8], width: Width, rows: usize, bound: u64) -> bool
+pub(crate) fn sound_offsets(body: &[u8], width: Width, rows: usize, bound: u64) -> bool
     requires { ⌜ length (now body) ≡ bytes-of width * (rows + 1) ⌝ ∗ ⌜ rows ≤ 1048576 ⌝ }
     ensures { λ r. ⌜ r ≡ offsets-sound (bytes-of width) (values-in (bytes-of width) (rows + 1) (now (body .entry))) bound ⌝ }
 {

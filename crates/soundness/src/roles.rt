@@ -47,7 +47,7 @@ fn ends_reach(parcel: &[u8], d: Draft, width: Width, top: u64) -> bool
 
 // Whether a node is sound as its parent asks: run ends climb to the parent's rows, and no entry of a map is null. A node
 // that has no values has no run ends.
-pub fn role_sound(parcel: &[u8], d: Draft) -> bool
+pub(crate) fn role_sound(parcel: &[u8], d: Draft) -> bool
     requires { ⌜ Drafted (now parcel) d ⌝ ∗ ⌜ Filled d ⌝ }
     ensures { λ r. ⌜ ((ds : List Data) → r ≡ role-sound (roleOf (d .role)) (node-in (now (parcel .entry)) d ds)) ⌝ }
 {

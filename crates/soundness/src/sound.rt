@@ -15,7 +15,7 @@ use parcels::draft::Draft;
 use pools::records::Part;
 
 // Whether a node is sound. The data buffers that it names were shelved before.
-pub fn sound(parcel: &[u8], bytes: &[u8], buffers: &[Part], d: Draft) -> bool
+pub(crate) fn sound(parcel: &[u8], bytes: &[u8], buffers: &[Part], d: Draft) -> bool
     requires { ⌜ Drafted (now parcel) d ⌝ ∗ ⌜ All (Within (now bytes)) (now buffers) ⌝ }
     ensures { λ r. ⌜ ((more : List (List ℕ)) → unshelved-in (length (now (buffers .entry))) (data-of (now (parcel .entry)) (buffers-in (now (bytes .entry)) (now (buffers .entry)) ++ more) d) ≡ none
         → r ≡ sound-in (now (parcel .entry)) (buffers-in (now (bytes .entry)) (now (buffers .entry)) ++ more) d) ⌝ }

@@ -18,7 +18,7 @@ fn two(ahead: &[u8]) -> u64
     }
 }
 
-pub fn four(ahead: &[u8]) -> u64
+pub(crate) fn four(ahead: &[u8]) -> u64
     requires { ⌜ 4 ≤ length (now ahead) ⌝ }
     ensures is { λ r. ⌜ r ≡ little-endian (take 4 (now (ahead .entry))) ⌝ }
     ensures low { λ r. ⌜ r < 4294967296 ⌝ }
@@ -40,7 +40,7 @@ fn eight(ahead: &[u8]) -> u64
 }
 
 // Value i of a buffer of them.
-pub fn value(body: &[u8], width: Width, i: usize) -> u64
+pub(crate) fn value(body: &[u8], width: Width, i: usize) -> u64
     requires { ⌜ bytes-of width * (i + 1) ≤ length (now body) ⌝ }
     ensures { λ r. ⌜ r ≡ value-at (bytes-of width) (now (body .entry)) i ⌝ }
 {

@@ -64,7 +64,7 @@ fn sound_view(
 }
 
 // Whether all views of a node are sound. A view costs a few steps, and 255 at most over 65,535 data buffers.
-pub fn sound_views(
+pub(crate) fn sound_views(
     parcel: &[u8],
     bytes: &[u8],
     buffers: &[Part],
