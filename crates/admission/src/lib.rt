@@ -1,4 +1,6 @@
 // Whether a parcel is accepted: it is read, it is sound, and there is room for it.
+#![tactic(auto)]
+
 pub mod accepted;
 pub mod entries;
 pub mod examine;

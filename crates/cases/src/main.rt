@@ -1,6 +1,8 @@
 // Runs streams of calls, each on a fresh shelf whose pools have the lengths that stand before it. A case is the lengths of
 // pools 1 to 11 and of the text buffer, then the length of its stream, each in 32 bits, most significant first, then the
 // stream itself.
+#![tactic(auto)]
+
 use pools::pool::Pool;
 use pools::pools::Pools;
 use shelf::blank::{NO_COLUMN, NO_NODE, NO_PART, NO_VIEW};

@@ -1,7 +1,9 @@
-ghost use Rattle.columns.specs.Bytes.{BitsReadBack, NumbersReadBack, ViewsReadBack, ByteExamples};
-ghost use Rattle.columns.specs.ListKind.{ListsAreListKinds, GatheringKeepsRanges, GatheringExamples};
 // The theory of columns: formats, columns, what a row says, interleaving, parcels, the ledger of calls. Each function here
 // stands for a theorem, which its contract states; none does anything.
+#![tactic(auto)]
+
+ghost use Rattle.columns.specs.Bytes.{BitsReadBack, NumbersReadBack, ViewsReadBack, ByteExamples};
+ghost use Rattle.columns.specs.ListKind.{ListsAreListKinds, GatheringKeepsRanges, GatheringExamples};
 ghost use Rattle.columns.specs.Types.{AlikeIsSameType};
 ghost use Rattle.columns.specs.Exact.{SoundnessTestIsExact};
 ghost use Rattle.columns.specs.Promises.{ParcelIsSound, RowsFollowPairs, MadeColumnIsSound};

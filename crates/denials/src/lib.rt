@@ -1,4 +1,6 @@
 // Why a call is denied: a number, which says what is wrong, and a detail, which says where or how much.
+#![tactic(auto)]
+
 ghost use Rattle.std.specs.Prelude.{◌≡◌, Some};
 ghost use Rattle.denials.specs.Said.{said, number_of, detail_of};
 ghost use Rattle.denials.specs.Worded.{words, sentence};

@@ -1,4 +1,6 @@
 // Storing an accepted parcel in the pools.
+#![tactic(auto)]
+
 pub mod copy;
 pub mod lent;
 pub mod node;

@@ -1,4 +1,6 @@
 // The structure of a parcel: its nodes, one after another, with where their parts lie.
+#![tactic(auto)]
+
 pub mod allow;
 pub mod begin;
 pub mod draft;

@@ -1,4 +1,6 @@
 // The pools: lent memory that only grows, and what lies in it.
+#![tactic(auto)]
+
 pub mod laws;
 pub mod pool;
 pub mod pools;

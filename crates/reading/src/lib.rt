@@ -1,4 +1,6 @@
 // The text of a row of a stored column.
+#![tactic(auto)]
+
 pub mod laws;
 pub mod leaves;
 pub mod pen;

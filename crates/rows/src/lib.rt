@@ -1,4 +1,6 @@
 // The rows of stored nodes, as they are read off the pools.
+#![tactic(auto)]
+
 pub mod buffers;
 pub mod ranges;
 pub mod runs;

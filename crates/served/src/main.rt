@@ -1,4 +1,6 @@
 // The program: calls on standard input, a line for each on standard output.
+#![tactic(auto)]
+
 use pools::pool::Pool;
 use pools::pools::Pools;
 use shelf::blank::{NO_COLUMN, NO_NODE, NO_PART, NO_VIEW};

@@ -1,4 +1,6 @@
 // Whether the nodes of a parcel are sound.
+#![tactic(auto)]
+
 pub mod ends;
 pub mod fill;
 pub mod kinds;

@@ -1,4 +1,6 @@
 // The program's wire form: calls as bytes, and answers as lines.
+#![tactic(auto)]
+
 pub mod answer;
 pub mod call;
 pub mod decode;

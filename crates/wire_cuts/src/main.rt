@@ -1,4 +1,6 @@
 // Serves a stream of calls, cut at every byte of it, with a stand-in that answers by what a call holds.
+#![tactic(auto)]
+
 use std::alloc::{AllocError, Global};
 use std::io;
 use std::io::Read;

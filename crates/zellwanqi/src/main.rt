@@ -1,4 +1,6 @@
 // The program: calls on standard input, a line for each on standard output.
+#![tactic(auto)]
+
 use std::io;
 use wire::answer::Answer;
 use wire::call::Call;

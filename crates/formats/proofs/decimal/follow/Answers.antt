@@ -19,9 +19,9 @@ returns-in-err-n c =
 
 pub loop-b-preserved : goal.loop-b-preserved
 loop-b-preserved c = (
-  sym (go_on c.args.rest.now c.loop-b.b-index c.loop-b.n c.in-ok-d.d (Some c.in-ok-n.n) c.loop-b-test.true (c.in-ok-d.ensures ∙ ap digit_of c.from.ensures) c.in-ok-n.ensures)
+  sym (go_on c.args.rest.now c.loop-b.b-index c.loop-b.n c.in_ok-d.d (Some c.in_ok-n.n) c.loop-b-test.true (c.in_ok-d.ensures ∙ ap digit_of c.from.ensures) c.in_ok-n.ensures)
       ∙ c.loop-b.invariant.0,
-  capped_small _ _ c.in-ok-n.ensures,
+  capped_small _ _ c.in_ok-n.ensures,
 )
 
 pub returns : goal.returns

@@ -5,4 +5,4 @@ use Rattle.wire.proofs.decode.call_in.Goals as goal
 
 pub returns-in-F : goal.returns-in-F
 returns-in-F c =
-    let e = c.split-at.ensures.front ∙ ap (take c.u32-at-length.result) (take_rest c.args.input.now 5) ∙ ap (λ n. take n (drop 5 c.args.input.now)) c.u32-at-length.ensures in ap file e ∙ search rules
+    let e = c.split_at.ensures.front ∙ ap (take c.u32_at-length.result) (take_rest c.args.input.now 5) ∙ ap (λ n. take n (drop 5 c.args.input.now)) c.u32_at-length.ensures in ap file e ∙ search rules

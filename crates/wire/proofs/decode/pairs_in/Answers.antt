@@ -7,4 +7,4 @@ pub loop-k-preserved : goal.loop-k-preserved
 loop-k-preserved c =
     one_more (pairs_in c.args.input.now c.args.from)
     (λ n. (u16_at c.args.input.now (c.args.from + 6 * n), u32_at c.args.input.now (c.args.from + 6 * n + 2))) c.loop-k.k _ _ _
-    (λ n. refl) c.in-ok-push.ensures.items c.loop-k.invariant (ap₂ (λ x y. (x, y)) c.u16-at.ensures c.u32-at.ensures)
+    (λ n. refl) c.in_ok-push.ensures.items c.loop-k.invariant (ap₂ (λ x y. (x, y)) c.u16_at.ensures c.u32_at.ensures)

@@ -15,9 +15,9 @@ returns g c = (
 pub loop-lacks-preserved : goal.loop-lacks-preserved
 loop-lacks-preserved g c =
     let filled : ℕ = c.loop-lacks.filled in
-    let got : ℕ = c.in-ok-got.got in
+    let got : ℕ = c.in_ok-got.got in
     let inside : filled ≤ length c.loop-lacks.held = search rules in
-    let read : got ≤ length c.read.new.buf = c.in-ok-got.ensures.bound.0 in
+    let read : got ≤ length c.read.new.buf = c.in_ok-got.ensures.bound.0 in
     let wanted : length c.read.new.buf ≡ c.in-Lacks.lacks = search rules in
     let whole : filled - 0 ≡ filled = omega arith in
     let lacks : extent_of (take filled c.loop-lacks.held) ≡ Lacks c.in-Lacks.lacks = sym (subst (λ n. Lacks c.in-Lacks.lacks ≡ extent_of (take n c.loop-lacks.held)) whole c.in-Lacks.ensures) in
