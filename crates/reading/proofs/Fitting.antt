@@ -1,5 +1,5 @@
 -- What a pen leaves of its whole buffer: a dry one says whether the text fits, a wet one puts it in front.
-use Rattle.std.proofs.Common.{◌≡◌, ℕ, ◌+◌, ◌<◌, ◌≤◌, Bool, true, false, not, leb, List, [], ◌∷◌, ◌++◌, length, take, drop, sym, refl, ap, ◌∙◌, subst, inl, inr, zero-add, arith, Bor, MutBor, le-leb}
+use Rattle.std.proofs.Common.{◌≡◌, ℕ, ◌+◌, ◌<◌, ◌≤◌, Bool, true, false, not, leb, List, [], ◌∷◌, ◌++◌, length, take, drop, sym, refl, ap, ◌∙◌, subst, inl, inr, zero-add, arith, MutBor, le-leb}
 use borrow.Author.Tests.{lt-leb}
 use Rattle.std.proofs.lemmas.Bool.{cases_lt}
 use Rattle.reading.specs.declared.pen.Pen.{Pen}
@@ -9,11 +9,11 @@ use Rattle.reading.specs.Laws.{dry_at, wet_at}
 use Rattle.reading.proofs.Pens.{dry_fits, dry_over, wet_fits}
 
 -- A dry pen leaves the buffer, and is full only where the text does not fit.
-record Dry (t : Bor (List ℕ)) (q : Pen) (xs : List ℕ) : Type 0 where
+record Dry (t : MutBor (List ℕ)) (q : Pen) (xs : List ℕ) : Type 0 where
   pub same : q.text ≡ t
   pub tells : not q.full ≡ leb (length xs) (length t.now)
 
-dry : (t : Bor (List ℕ)) (q : Pen) (xs : List ℕ) → q ≡ wrote (dry_at t 0) xs → Dry t q xs
+dry : (t : MutBor (List ℕ)) (q : Pen) (xs : List ℕ) → q ≡ wrote (dry_at t 0) xs → Dry t q xs
 dry t q xs e = elim (cases_lt (length t.now) (length xs)) [
   | inl l ↦ (let o = dry_over t 0 xs (omega arith) (omega arith) in
       record {
@@ -27,7 +27,7 @@ dry t q xs e = elim (cases_lt (length t.now) (length xs)) [
       })
 ]
 
-pub dry_tells : (t : Bor (List ℕ)) (q : Pen) (xs : List ℕ) → q ≡ wrote (dry_at t 0) xs → not q.full ≡ leb (length xs) (length t.now)
+pub dry_tells : (t : MutBor (List ℕ)) (q : Pen) (xs : List ℕ) → q ≡ wrote (dry_at t 0) xs → not q.full ≡ leb (length xs) (length t.now)
 dry_tells t q xs e = (dry t q xs e).tells
 
 -- x is what the lender of the buffer has after the pen q

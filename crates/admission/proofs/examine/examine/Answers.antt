@@ -10,19 +10,19 @@ use Rattle.admission.specs.Needs.{listed, drafts_need}
 use Rattle.admission.proofs.Deciding.{needed_is, denied_by_node, denied_room, accepted}
 use Rattle.admission.proofs.examine.examine.Goals as goal
 
-pub returns-in-err-first-denied : goal.returns-in-err-first-denied
-returns-in-err-first-denied c =
-    let p = err_from_is_err_and c.from-residual-in-err-first-denied.result c.from-residual-in-err-first-denied.ensures.1 in
+pub returns-in_err-first_denied : goal.returns-in_err-first_denied
+returns-in_err-first_denied c =
+    let p = err_from_is_err_and c.from_residual-in_err-first_denied.result c.from_residual-in_err-first_denied.ensures.1 in
     let parcel = c.args.parcel.now in
     let bytes = c.args.bytes.now in
     let buffers = c.args.buffers.now in
-    let n = c.in-ok-nodes.nodes in
+    let n = c.in_ok-nodes.nodes in
     let X = c.outline.new.drafts in
     rw (p.1, p.2)
     record {
       answers = λ ends s S.
-          denied_by_node parcel bytes buffers (take n X) (c.in-ok-nodes.ensures.reads (buffers_in bytes buffers)) c.args.lengths c.args.marks ends s S (said c.in-err-first-denied.field-0.0)
-          (ap (λ (m : ℕ). first_denial (checks_of parcel (length buffers) (buffers_in bytes buffers) 0 (take m X))) (sym (sub-zero n)) ∙ c.in-err-first-denied.ensures);
+          denied_by_node parcel bytes buffers (take n X) (c.in_ok-nodes.ensures.reads (buffers_in bytes buffers)) c.args.lengths c.args.marks ends s S (said c.in_err-first_denied.field-0.0)
+          (ap (λ (m : ℕ). first_denial (checks_of parcel (length buffers) (buffers_in bytes buffers) 0 (take m X))) (sym (sub-zero n)) ∙ c.in_err-first_denied.ensures);
       drafted = tt;
     }
 
@@ -31,15 +31,15 @@ returns-in-Some c =
     let parcel = c.args.parcel.now in
     let bytes = c.args.bytes.now in
     let buffers = c.args.buffers.now in
-    let n = c.in-ok-nodes.nodes in
+    let n = c.in_ok-nodes.nodes in
     let X = c.outline.new.drafts in
-    let O = c.in-ok-nodes.ensures.reads (buffers_in bytes buffers) in
+    let O = c.in_ok-nodes.ensures.reads (buffers_in bytes buffers) in
     let e = c.needs-needed.ensures ∙ ap (λ (m : ℕ). plus one_column (drafts_need parcel (take m X))) (sub-zero n) in
     record {
       answers = λ ends s S.
           denied_room parcel bytes buffers (take n X) O c.args.lengths c.args.marks ends s S
-          (ap (λ (m : ℕ). first_denial (checks_of parcel (length buffers) (buffers_in bytes buffers) 0 (take m X))) (sym (sub-zero n)) ∙ c.in-ok-first-denied.ensures)
-          c.needs-needed.result (needed_is parcel bytes buffers (take n X) O c.needs-needed.result c.in-ok-nodes.ensures.inside.1 e) c.in-Some.pool c.in-Some.ensures;
+          (ap (λ (m : ℕ). first_denial (checks_of parcel (length buffers) (buffers_in bytes buffers) 0 (take m X))) (sym (sub-zero n)) ∙ c.in_ok-first_denied.ensures)
+          c.needs-needed.result (needed_is parcel bytes buffers (take n X) O c.needs-needed.result c.in_ok-nodes.ensures.inside.1 e) c.in-Some.pool c.in-Some.ensures;
       drafted = tt;
     }
 
@@ -48,15 +48,15 @@ returns c =
     let parcel = c.args.parcel.now in
     let bytes = c.args.bytes.now in
     let buffers = c.args.buffers.now in
-    let n = c.in-ok-nodes.nodes in
+    let n = c.in_ok-nodes.nodes in
     let X = c.outline.new.drafts in
-    let O = c.in-ok-nodes.ensures.reads (buffers_in bytes buffers) in
+    let O = c.in_ok-nodes.ensures.reads (buffers_in bytes buffers) in
     let e = c.needs-needed.ensures ∙ ap (λ (m : ℕ). plus one_column (drafts_need parcel (take m X))) (sub-zero n) in
-    let q = needed_is parcel bytes buffers (take n X) O c.needs-needed.result c.in-ok-nodes.ensures.inside.1 e in
+    let q = needed_is parcel bytes buffers (take n X) O c.needs-needed.result c.in_ok-nodes.ensures.inside.1 e in
     record {
       answers = λ ends s S.
           accepted parcel bytes buffers (take n X) O c.args.lengths c.args.marks ends s S
-          (ap (λ (m : ℕ). first_denial (checks_of parcel (length buffers) (buffers_in bytes buffers) 0 (take m X))) (sym (sub-zero n)) ∙ c.in-ok-first-denied.ensures)
-          c.needs-needed.result q c.in-default.ensures;
-      drafted = (c.in-ok-nodes.ensures.inside.0, record { outlined = O; drafted = c.in-ok-nodes.ensures.inside.1; needed = q });
+          (ap (λ (m : ℕ). first_denial (checks_of parcel (length buffers) (buffers_in bytes buffers) 0 (take m X))) (sym (sub-zero n)) ∙ c.in_ok-first_denied.ensures)
+          c.needs-needed.result q c.in_default.ensures;
+      drafted = (c.in_ok-nodes.ensures.inside.0, record { outlined = O; drafted = c.in_ok-nodes.ensures.inside.1; needed = q });
     }

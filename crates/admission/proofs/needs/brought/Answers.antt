@@ -5,17 +5,17 @@ use Rattle.admission.proofs.needs.brought.Goals as goal
 pub loop-k-init : goal.loop-k-init
 loop-k-init c = counted_start c.args.parcel.now c.args.lent.start c.args.lent.len
 
-pub brought-at-one-requires : goal.brought-at-one-requires
-brought-at-one-requires c = counted_fits c.args.parcel.now c.args.lent.start c.args.lent.len c.loop-k.-k c.loop-k.at c.loop-k.count c.loop-k.bytes c.loop-k.invariant c.loop-k-test.true c.requires.0
+pub brought_at-one-requires : goal.brought_at-one-requires
+brought_at-one-requires c = counted_fits c.args.parcel.now c.args.lent.start c.args.lent.len c.loop-k.-k c.loop-k.at c.loop-k.count c.loop-k.bytes c.loop-k.invariant c.loop-k-test.true c.requires.0
 
 pub after-at-requires : goal.after-at-requires
 after-at-requires c = counted_fits c.args.parcel.now c.args.lent.start c.args.lent.len c.loop-k.-k c.loop-k.at c.loop-k.count c.loop-k.bytes c.loop-k.invariant c.loop-k-test.true c.requires.0
 
 pub loop-k-preserved : goal.loop-k-preserved
 loop-k-preserved c =
-    let e = c.brought-at-one.ensures in
+    let e = c.brought_at-one.ensures in
     counted_more c.args.parcel.now c.args.lent.start c.args.lent.len c.loop-k.-k c.loop-k.at c.loop-k.count c.loop-k.bytes c.loop-k.invariant c.loop-k-test.true c.requires.0
-    c.brought-at-one.result.0 c.brought-at-one.result.1 c.after-at.result e.is.0 e.is.1 c.after-at.ensures e.low.0 e.low.1
+    c.brought_at-one.result.0 c.brought_at-one.result.1 c.after-at.result e.is.0 e.is.1 c.after-at.ensures e.low.0 e.low.1
 
 pub returns : goal.returns
 returns c =

@@ -5,4 +5,4 @@ use Rattle.admission.proofs.needs.kind_needs.Goals as goal
 
 pub returns-in-Primitive : goal.returns-in-Primitive
 returns-in-Primitive c =
-    c.width-needs.ensures ∙ sym (ap (λ (K : Kind). kind_entries K c.args.base c.args.rows c.args.text c.args.list c.args.new) c.in-Primitive.is)
+    c.width_needs.ensures ∙ sym (ap (λ (K : Kind). kind_entries K c.args.base c.args.rows c.args.text c.args.list c.args.new) c.in-Primitive.is)

@@ -8,14 +8,14 @@ use Rattle.admission.proofs.room.full.Goals as goal
 pub returns-then-not-fits : goal.returns-then-not-fits
 returns-then-not-fits c =
     ap lifted
-    (full_by (listed c.args.lengths) (listed c.args.marks) (listed c.args.needs) c.by-pool-ends.result c.by-pool-used.result c.by-pool-more.result c.by-pool-ends.ensures c.by-pool-used.ensures c.by-pool-more.ensures
-    ∙ left_full c.by-pool-ends.result c.by-pool-used.result c.by-pool-more.result c.loop-k.k c.loop-k-test.true c.loop-k.invariant _ c.if-not-fits.ensures refl)
+    (full_by (listed c.args.lengths) (listed c.args.marks) (listed c.args.needs) c.by_pool-ends.result c.by_pool-used.result c.by_pool-more.result c.by_pool-ends.ensures c.by_pool-used.ensures c.by_pool-more.ensures
+    ∙ left_full c.by_pool-ends.result c.by_pool-used.result c.by_pool-more.result c.loop-k.k c.loop-k-test.true c.loop-k.invariant _ c.if-not-fits.ensures refl)
 
 pub loop-k-preserved : goal.loop-k-preserved
-loop-k-preserved c = left_more c.by-pool-ends.result c.by-pool-used.result c.by-pool-more.result c.loop-k.k c.loop-k-test.true c.loop-k.invariant _ c.if-not-fits.ensures refl
+loop-k-preserved c = left_more c.by_pool-ends.result c.by_pool-used.result c.by_pool-more.result c.loop-k.k c.loop-k-test.true c.loop-k.invariant _ c.if-not-fits.ensures refl
 
 pub returns : goal.returns
 returns c =
     ap lifted
-    (full_by (listed c.args.lengths) (listed c.args.marks) (listed c.args.needs) c.by-pool-ends.result c.by-pool-used.result c.by-pool-more.result c.by-pool-ends.ensures c.by-pool-used.ensures c.by-pool-more.ensures
-    ∙ left_none c.by-pool-ends.result c.by-pool-used.result c.by-pool-more.result c.loop-k.k c.loop-k-test.false c.loop-k.invariant)
+    (full_by (listed c.args.lengths) (listed c.args.marks) (listed c.args.needs) c.by_pool-ends.result c.by_pool-used.result c.by_pool-more.result c.by_pool-ends.ensures c.by_pool-used.ensures c.by_pool-more.ensures
+    ∙ left_none c.by_pool-ends.result c.by_pool-used.result c.by_pool-more.result c.loop-k.k c.loop-k-test.false c.loop-k.invariant)

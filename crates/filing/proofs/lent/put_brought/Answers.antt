@@ -2,8 +2,8 @@ use Rattle.std.proofs.Common.{arith}
 use Rattle.filing.proofs.Lending.{bringing_none, next_readable, next_shelved, next_held, bringing_more, bringing_all}
 use Rattle.filing.proofs.lent.put_brought.Goals as goal
 
-pub put-buffer-at-requires : goal.put-buffer-at-requires
-put-buffer-at-requires c =
+pub put_buffer-at-requires : goal.put_buffer-at-requires
+put_buffer-at-requires c =
     let s = c.loop-k.invariant in
     let more = c.loop-k-test.true in
     record {
@@ -17,7 +17,7 @@ loop-k-init c = bringing_none _ _ _ _
 
 pub loop-k-preserved : goal.loop-k-preserved
 loop-k-preserved c =
-    bringing_more _ _ c.args.lent.len _ _ _ _ _ _ c.loop-k.invariant _ _ _ c.put-buffer-at.ensures.bytes c.put-buffer-at.ensures.buffers c.put-buffer-at.ensures.after
+    bringing_more _ _ c.args.lent.len _ _ _ _ _ _ c.loop-k.invariant _ _ _ c.put_buffer-at.ensures.bytes c.put_buffer-at.ensures.buffers c.put_buffer-at.ensures.after
 
 pub returns : goal.returns
 returns c =

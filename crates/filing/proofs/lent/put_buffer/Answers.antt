@@ -11,16 +11,16 @@ use Rattle.filing.proofs.Numbers.{slice_fits}
 use Rattle.filing.proofs.Lents.{size_named, size_brought, size_least, one_fits, named_none, brought_one, flat_one}
 use Rattle.filing.proofs.lent.put_buffer.Goals as goal
 
-pub length-at-len-requires : goal.length-at-len-requires
-length-at-len-requires c = omega (arith, one_fits c.args.parcel.now c.args.at c.requires.inside, size_least c.args.parcel.now c.args.at)
+pub length_at-len-requires : goal.length_at-len-requires
+length_at-len-requires c = omega (arith, one_fits c.args.parcel.now c.args.at c.requires.inside, size_least c.args.parcel.now c.args.at)
 
-pub overflow-add-result : goal.overflow-add-result
-overflow-add-result c = omega (arith, one_fits c.args.parcel.now c.args.at c.requires.inside, size_least c.args.parcel.now c.args.at)
+pub overflow_add-result : goal.overflow_add-result
+overflow_add-result c = omega (arith, one_fits c.args.parcel.now c.args.at c.requires.inside, size_least c.args.parcel.now c.args.at)
 
 pub returns-then-len-ge2147483648 : goal.returns-then-len-ge2147483648
 returns-then-len-ge2147483648 c =
     let named : is_named (drop c.args.at c.args.parcel.now) ≡ true =
-    le-leb 2147483648 (buffer_length (drop c.args.at c.args.parcel.now)) (omega (arith, c.length-at-len.ensures.value)) in
+    le-leb 2147483648 (buffer_length (drop c.args.at c.args.parcel.now)) (omega (arith, c.length_at-len.ensures.value)) in
     let none = named_none c.args.parcel.now c.args.at named in
     record {
       bytes =
@@ -30,17 +30,17 @@ returns-then-len-ge2147483648 c =
       after = ap (λ (n : ℕ). c.args.at + n) (sym (size_named c.args.parcel.now c.args.at named));
     }
 
-pub overflow-add-at : goal.overflow-add-at
-overflow-add-at c = omega (arith, one_fits c.args.parcel.now c.args.at c.requires.inside, size_least c.args.parcel.now c.args.at)
+pub overflow_add-at : goal.overflow_add-at
+overflow_add-at c = omega (arith, one_fits c.args.parcel.now c.args.at c.requires.inside, size_least c.args.parcel.now c.args.at)
 
-pub copy-part-part-requires : goal.copy-part-part-requires
-copy-part-part-requires c =
+pub copy_part-part-requires : goal.copy_part-part-requires
+copy_part-part-requires c =
     let new : is_named (drop c.args.at c.args.parcel.now) ≡ false =
-    lt-leb 2147483648 (buffer_length (drop c.args.at c.args.parcel.now)) (omega (arith, c.length-at-len.ensures.value)) in
-    let inside : c.args.at + 4 + c.length-at-len.result ≤ length c.args.parcel.now =
-    omega (arith, one_fits c.args.parcel.now c.args.at c.requires.inside, size_brought c.args.parcel.now c.args.at new, c.length-at-len.ensures.value) in
-    let long : length (flat (brought_from c.args.parcel.now c.args.at 1)) ≡ c.length-at-len.result =
-    flat_one c.args.parcel.now c.args.at c.length-at-len.result c.length-at-len.ensures.value inside new in
+    lt-leb 2147483648 (buffer_length (drop c.args.at c.args.parcel.now)) (omega (arith, c.length_at-len.ensures.value)) in
+    let inside : c.args.at + 4 + c.length_at-len.result ≤ length c.args.parcel.now =
+    omega (arith, one_fits c.args.parcel.now c.args.at c.requires.inside, size_brought c.args.parcel.now c.args.at new, c.length_at-len.ensures.value) in
+    let long : length (flat (brought_from c.args.parcel.now c.args.at 1)) ≡ c.length_at-len.result =
+    flat_one c.args.parcel.now c.args.at c.length_at-len.result c.length_at-len.ensures.value inside new in
     record {
       room = record { lent = omega (arith, c.requires.held.lent, long); capped = omega (arith, c.requires.held.capped, long) };
       inside = inside;
@@ -49,35 +49,35 @@ copy-part-part-requires c =
 pub append-requires : goal.append-requires
 append-requires c =
     let new : is_named (drop c.args.at c.args.parcel.now) ≡ false =
-    lt-leb 2147483648 (buffer_length (drop c.args.at c.args.parcel.now)) (omega (arith, c.length-at-len.ensures.value)) in
+    lt-leb 2147483648 (buffer_length (drop c.args.at c.args.parcel.now)) (omega (arith, c.length_at-len.ensures.value)) in
     let one : length (brought_from c.args.parcel.now c.args.at 1) ≡ 1 = ap length (brought_one c.args.parcel.now c.args.at new) in
     record { lent = omega (arith, c.requires.shelved.lent, one); capped = omega (arith, c.requires.shelved.capped, one) }
 
-pub overflow-add-result-2 : goal.overflow-add-result-2
-overflow-add-result-2 c = omega (arith, one_fits c.args.parcel.now c.args.at c.requires.inside, size_least c.args.parcel.now c.args.at)
+pub overflow_add-result-2 : goal.overflow_add-result-2
+overflow_add-result-2 c = omega (arith, one_fits c.args.parcel.now c.args.at c.requires.inside, size_least c.args.parcel.now c.args.at)
 
-pub overflow-add-result-3 : goal.overflow-add-result-3
-overflow-add-result-3 c = omega (arith, one_fits c.args.parcel.now c.args.at c.requires.inside, size_least c.args.parcel.now c.args.at)
+pub overflow_add-result-3 : goal.overflow_add-result-3
+overflow_add-result-3 c = omega (arith, one_fits c.args.parcel.now c.args.at c.requires.inside, size_least c.args.parcel.now c.args.at)
 
 pub returns : goal.returns
 returns c =
-    let value = c.length-at-len.ensures.value in
+    let value = c.length_at-len.ensures.value in
     let new : is_named (drop c.args.at c.args.parcel.now) ≡ false =
-    lt-leb 2147483648 (buffer_length (drop c.args.at c.args.parcel.now)) (omega (arith, c.length-at-len.ensures.value)) in
+    lt-leb 2147483648 (buffer_length (drop c.args.at c.args.parcel.now)) (omega (arith, c.length_at-len.ensures.value)) in
     let one = brought_one c.args.parcel.now c.args.at new in
     let size = size_brought c.args.parcel.now c.args.at new in
-    let inside : c.args.at + 4 + c.length-at-len.result ≤ length c.args.parcel.now =
+    let inside : c.args.at + 4 + c.length_at-len.result ≤ length c.args.parcel.now =
     omega (arith, one_fits c.args.parcel.now c.args.at c.requires.inside, size, value) in
-    let long : length (bytes_at c.args.parcel.now c.args.at) ≡ c.length-at-len.result =
+    let long : length (bytes_at c.args.parcel.now c.args.at) ≡ c.length_at-len.result =
     slice_fits c.args.parcel.now (c.args.at + 4) (buffer_length (drop c.args.at c.args.parcel.now)) (omega (arith, inside, value)) ∙ sym value in
     record {
       bytes =
-          subst (λ (l : List ℕ). Grown c.args.bytes.now.mark c.args.bytes.now.lent.now l c.copy-part-part.new.bytes.mark c.copy-part-part.new.bytes.lent.now)
+          subst (λ (l : List ℕ). Grown c.args.bytes.now.mark c.args.bytes.now.lent.now l c.copy_part-part.new.bytes.mark c.copy_part-part.new.bytes.lent.now)
           (ap (slice c.args.parcel.now (c.args.at + 4)) value ∙ sym (append-nil (bytes_at c.args.parcel.now c.args.at)) ∙ sym (ap flat one))
-          c.copy-part-part.ensures.added;
+          c.copy_part-part.ensures.added;
       buffers =
           subst (λ (l : List Part). Grown c.args.buffers.now.mark c.args.buffers.now.lent.now l c.append.new.self.mark c.append.new.self.lent.now)
-          (ap (λ (p : Part). p ∷ []) c.copy-part-part.ensures.lies
+          (ap (λ (p : Part). p ∷ []) c.copy_part-part.ensures.lies
           ∙ ap (λ (n : ℕ). (let p : Part = record { start = c.args.bytes.now.mark; len = n } in p) ∷ []) (sym long)
           ∙ sym (ap (parts_from c.args.bytes.now.mark) one))
           c.append.ensures;

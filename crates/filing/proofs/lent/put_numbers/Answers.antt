@@ -2,8 +2,8 @@ use Rattle.std.proofs.Common.{refl, arith}
 use Rattle.filing.proofs.Lending.{numbering_none, next_readable, next_listed, next_few, numbering_more, numbering_all}
 use Rattle.filing.proofs.lent.put_numbers.Goals as goal
 
-pub number-at-number-requires : goal.number-at-number-requires
-number-at-number-requires c =
+pub number_at-number-requires : goal.number_at-number-requires
+number_at-number-requires c =
     let s = c.loop-k.invariant in
     let more = c.loop-k-test.true in
     record { inside = next_readable _ _ _ _ _ s.place more c.requires.inside; few = next_few _ _ _ _ _ _ _ _ _ s more c.requires.few }
@@ -16,7 +16,7 @@ loop-k-init c = numbering_none _ _ _ _
 
 pub loop-k-preserved : goal.loop-k-preserved
 loop-k-preserved c =
-    numbering_more _ _ _ c.args.lent.len _ _ _ _ _ c.loop-k.invariant _ _ _ _ c.number-at-number.ensures.number c.append.ensures c.number-at-number.ensures.after c.number-at-number.ensures.next
+    numbering_more _ _ _ c.args.lent.len _ _ _ _ _ c.loop-k.invariant _ _ _ _ c.number_at-number.ensures.number c.append.ensures c.number_at-number.ensures.after c.number_at-number.ensures.next
 
 pub returns : goal.returns
 returns c =

@@ -21,75 +21,75 @@ use Rattle.filing.specs.News.{plan_in, brought_by, plain_start, brought_start}
 use Rattle.filing.proofs.Fitting.{fit_less, fit_next, plan_within, plan_room, bytes_room, brought_room, own_planned, entry_is}
 use Rattle.filing.proofs.node.put_node.Goals as goal
 
-pub put-bytes-mask-requires : goal.put-bytes-mask-requires
-put-bytes-mask-requires c =
-    let e = c.plan-for-plan.ensures in
-    let fits = plan_within c.args.parcel.now c.args.draft c.plan-for-plan.result e c.requires.drafted c.requires.filled.body in
+pub put_bytes-mask-requires : goal.put_bytes-mask-requires
+put_bytes-mask-requires c =
+    let e = c.plan_for-plan.ensures in
+    let fits = plan_within c.args.parcel.now c.args.draft c.plan_for-plan.result e c.requires.drafted c.requires.filled.body in
     record {
       room =
-          fit_less _ (c.args.draft.head.format.len + (mask_len c.args.draft.parts.mask + c.plan-for-plan.result.plain.len)) (omega arith)
-          (bytes_room c.args.pools.now c.args.parcel.now c.args.draft c.args.span (marks_of c.args.pools.now) c.plan-for-plan.result e c.requires.drafted fits.plain c.requires.room);
+          fit_less _ (c.args.draft.head.format.len + (mask_len c.args.draft.parts.mask + c.plan_for-plan.result.plain.len)) (omega arith)
+          (bytes_room c.args.pools.now c.args.parcel.now c.args.draft c.args.span (marks_of c.args.pools.now) c.plan_for-plan.result e c.requires.drafted fits.plain c.requires.room);
       format = c.requires.drafted.head;
       mask = c.requires.drafted.parts.mask;
       plain = fits.plain;
     }
 
-pub put-shorts-requires : goal.put-shorts-requires
-put-shorts-requires c =
-    let e = c.plan-for-plan.ensures in
-    let fits = plan_within c.args.parcel.now c.args.draft c.plan-for-plan.result e c.requires.drafted c.requires.filled.body in
-    let room = plan_room c.args.pools.now c.args.parcel.now c.args.draft c.args.span (marks_of c.args.pools.now) c.plan-for-plan.result e c.requires.room in
+pub put_shorts-requires : goal.put_shorts-requires
+put_shorts-requires c =
+    let e = c.plan_for-plan.ensures in
+    let fits = plan_within c.args.parcel.now c.args.draft c.plan_for-plan.result e c.requires.drafted c.requires.filled.body in
+    let room = plan_room c.args.pools.now c.args.parcel.now c.args.draft c.args.span (marks_of c.args.pools.now) c.plan_for-plan.result e c.requires.room in
     record { room = room.shorts; inside = c.requires.drafted.parts.body; filled = fits.shorts }
 
-pub put-words-requires : goal.put-words-requires
-put-words-requires c =
-    let e = c.plan-for-plan.ensures in
-    let fits = plan_within c.args.parcel.now c.args.draft c.plan-for-plan.result e c.requires.drafted c.requires.filled.body in
-    let room = plan_room c.args.pools.now c.args.parcel.now c.args.draft c.args.span (marks_of c.args.pools.now) c.plan-for-plan.result e c.requires.room in
+pub put_words-requires : goal.put_words-requires
+put_words-requires c =
+    let e = c.plan_for-plan.ensures in
+    let fits = plan_within c.args.parcel.now c.args.draft c.plan_for-plan.result e c.requires.drafted c.requires.filled.body in
+    let room = plan_room c.args.pools.now c.args.parcel.now c.args.draft c.args.span (marks_of c.args.pools.now) c.plan_for-plan.result e c.requires.room in
     record { room = room.words; inside = c.requires.drafted.parts.body; filled = fits.words }
 
-pub put-longs-requires : goal.put-longs-requires
-put-longs-requires c =
-    let e = c.plan-for-plan.ensures in
-    let fits = plan_within c.args.parcel.now c.args.draft c.plan-for-plan.result e c.requires.drafted c.requires.filled.body in
-    let room = plan_room c.args.pools.now c.args.parcel.now c.args.draft c.args.span (marks_of c.args.pools.now) c.plan-for-plan.result e c.requires.room in
+pub put_longs-requires : goal.put_longs-requires
+put_longs-requires c =
+    let e = c.plan_for-plan.ensures in
+    let fits = plan_within c.args.parcel.now c.args.draft c.plan_for-plan.result e c.requires.drafted c.requires.filled.body in
+    let room = plan_room c.args.pools.now c.args.parcel.now c.args.draft c.args.span (marks_of c.args.pools.now) c.plan_for-plan.result e c.requires.room in
     record { room = room.longs; inside = c.requires.drafted.parts.body; filled = fits.longs }
 
-pub put-offsets-requires : goal.put-offsets-requires
-put-offsets-requires c =
-    let e = c.plan-for-plan.ensures in
-    let fits = plan_within c.args.parcel.now c.args.draft c.plan-for-plan.result e c.requires.drafted c.requires.filled.body in
-    let room = plan_room c.args.pools.now c.args.parcel.now c.args.draft c.args.span (marks_of c.args.pools.now) c.plan-for-plan.result e c.requires.room in
+pub put_offsets-requires : goal.put_offsets-requires
+put_offsets-requires c =
+    let e = c.plan_for-plan.ensures in
+    let fits = plan_within c.args.parcel.now c.args.draft c.plan_for-plan.result e c.requires.drafted c.requires.filled.body in
+    let room = plan_room c.args.pools.now c.args.parcel.now c.args.draft c.args.span (marks_of c.args.pools.now) c.plan_for-plan.result e c.requires.room in
     record { room = room.offsets; inside = c.requires.drafted.parts.body; filled = fits.offsets }
 
-pub put-views-requires : goal.put-views-requires
-put-views-requires c =
-    let e = c.plan-for-plan.ensures in
-    let fits = plan_within c.args.parcel.now c.args.draft c.plan-for-plan.result e c.requires.drafted c.requires.filled.body in
-    let room = plan_room c.args.pools.now c.args.parcel.now c.args.draft c.args.span (marks_of c.args.pools.now) c.plan-for-plan.result e c.requires.room in
+pub put_views-requires : goal.put_views-requires
+put_views-requires c =
+    let e = c.plan_for-plan.ensures in
+    let fits = plan_within c.args.parcel.now c.args.draft c.plan_for-plan.result e c.requires.drafted c.requires.filled.body in
+    let room = plan_room c.args.pools.now c.args.parcel.now c.args.draft c.args.span (marks_of c.args.pools.now) c.plan_for-plan.result e c.requires.room in
     record { room = room.views; inside = c.requires.drafted.parts.body; filled = fits.views }
 
-pub put-numbers-buffers-requires : goal.put-numbers-buffers-requires
-put-numbers-buffers-requires c =
-    let e = c.plan-for-plan.ensures in
-    let fits = plan_within c.args.parcel.now c.args.draft c.plan-for-plan.result e c.requires.drafted c.requires.filled.body in
-    let room = plan_room c.args.pools.now c.args.parcel.now c.args.draft c.args.span (marks_of c.args.pools.now) c.plan-for-plan.result e c.requires.room in
+pub put_numbers-buffers-requires : goal.put_numbers-buffers-requires
+put_numbers-buffers-requires c =
+    let e = c.plan_for-plan.ensures in
+    let fits = plan_within c.args.parcel.now c.args.draft c.plan_for-plan.result e c.requires.drafted c.requires.filled.body in
+    let room = plan_room c.args.pools.now c.args.parcel.now c.args.draft c.args.span (marks_of c.args.pools.now) c.plan_for-plan.result e c.requires.room in
     let most = brought_room c.args.pools.now c.args.parcel.now c.args.draft c.args.span (marks_of c.args.pools.now) c.requires.room in
     let mark : c.marks-marks.result.buffers ≡ c.args.pools.now.buffers.mark = ap (λ (m : Marks). m.buffers) c.marks-marks.ensures in
     record { inside = fits.list; room = room.lists; few = omega (arith, most.capped, fits.new, mark) }
 
-pub put-brought-requires : goal.put-brought-requires
-put-brought-requires c =
-    let e = c.plan-for-plan.ensures in
-    let fits = plan_within c.args.parcel.now c.args.draft c.plan-for-plan.result e c.requires.drafted c.requires.filled.body in
+pub put_brought-requires : goal.put_brought-requires
+put_brought-requires c =
+    let e = c.plan_for-plan.ensures in
+    let fits = plan_within c.args.parcel.now c.args.draft c.plan_for-plan.result e c.requires.drafted c.requires.filled.body in
     record {
       inside = c.requires.drafted.lent;
       shelved = brought_room c.args.pools.now c.args.parcel.now c.args.draft c.args.span (marks_of c.args.pools.now) c.requires.room;
       held =
-          fit_next c.put-bytes-mask.new.bytes (c.args.draft.head.format.len + (mask_len c.args.draft.parts.mask + c.plan-for-plan.result.plain.len)) (length (flat (brought_by c.args.parcel.now c.args.draft)))
-          (own_planned c.args.parcel.now c.args.draft c.plan-for-plan.result e c.requires.drafted fits.plain)
-          (bytes_room c.args.pools.now c.args.parcel.now c.args.draft c.args.span (marks_of c.args.pools.now) c.plan-for-plan.result e c.requires.drafted fits.plain c.requires.room)
-          c.put-bytes-mask.ensures.added;
+          fit_next c.put_bytes-mask.new.bytes (c.args.draft.head.format.len + (mask_len c.args.draft.parts.mask + c.plan_for-plan.result.plain.len)) (length (flat (brought_by c.args.parcel.now c.args.draft)))
+          (own_planned c.args.parcel.now c.args.draft c.plan_for-plan.result e c.requires.drafted fits.plain)
+          (bytes_room c.args.pools.now c.args.parcel.now c.args.draft c.args.span (marks_of c.args.pools.now) c.plan_for-plan.result e c.requires.drafted fits.plain c.requires.room)
+          c.put_bytes-mask.ensures.added;
     }
 
 pub returns : goal.returns
@@ -98,33 +98,33 @@ returns c =
     let parcel : List ℕ = c.args.parcel.now in
     let d : Draft = c.args.draft in
     let m : Marks = marks_of p in
-    let e : c.plan-for-plan.result ≡ plan_in d = c.plan-for-plan.ensures in
+    let e : c.plan_for-plan.result ≡ plan_in d = c.plan_for-plan.ensures in
     let marks : c.marks-marks.result ≡ m = c.marks-marks.ensures in
-    let fits = plan_within parcel d c.plan-for-plan.result e c.requires.drafted c.requires.filled.body in
-    let own = own_planned parcel d c.plan-for-plan.result e c.requires.drafted fits.plain in
-    let text : c.put-bytes-mask.result.2 ≡ (let t : Part = record { start = plain_start d m; len = (plan_in d).plain.len } in t) =
-    c.put-bytes-mask.ensures.plain ∙ ap (λ (x : Plan). (let t : Part = record { start = plain_start d m; len = x.plain.len } in t)) e in
-    let after : c.put-bytes-mask.new.bytes.mark ≡ brought_start d m =
-    omega (arith, c.put-bytes-mask.ensures.added.mark, own, ap (λ (x : Plan). x.plain.len) e) in
+    let fits = plan_within parcel d c.plan_for-plan.result e c.requires.drafted c.requires.filled.body in
+    let own = own_planned parcel d c.plan_for-plan.result e c.requires.drafted fits.plain in
+    let text : c.put_bytes-mask.result.2 ≡ (let t : Part = record { start = plain_start d m; len = (plan_in d).plain.len } in t) =
+    c.put_bytes-mask.ensures.plain ∙ ap (λ (x : Plan). (let t : Part = record { start = plain_start d m; len = x.plain.len } in t)) e in
+    let after : c.put_bytes-mask.new.bytes.mark ≡ brought_start d m =
+    omega (arith, c.put_bytes-mask.ensures.added.mark, own, ap (λ (x : Plan). x.plain.len) e) in
     record {
       columns = grown_none _ _;
       nodes =
           subst (λ (x : Entry). Gains p.nodes (x ∷ []) c.append.new.self)
-          (entry_is d c.args.span m c.put-bytes-mask.ensures.format c.put-bytes-mask.ensures.mask
-          (c.place-for-place.ensures ∙ ap₂ (λ (t : Part) (n : Marks). place_in d.kind t.start n) text marks) text
-          (c.put-numbers-buffers.ensures.lies ∙ ap (λ (x : Plan). (let t : Part = record { start = p.lists.mark; len = x.list.len } in t)) e))
+          (entry_is d c.args.span m c.put_bytes-mask.ensures.format c.put_bytes-mask.ensures.mask
+          (c.place_for-place.ensures ∙ ap₂ (λ (t : Part) (n : Marks). place_in d.kind t.start n) text marks) text
+          (c.put_numbers-buffers.ensures.lies ∙ ap (λ (x : Plan). (let t : Part = record { start = p.lists.mark; len = x.list.len } in t)) e))
           c.append.ensures;
       bytes =
-          subst (λ (x : Plan). Gains p.bytes ((within parcel d.head.format ++ (mask_sent parcel d.parts.mask ++ within parcel x.plain)) ++ flat (brought_by parcel d)) c.put-brought.new.bytes) e
-          (grown_then c.put-bytes-mask.ensures.added c.put-brought.ensures.bytes);
-      shorts = subst (λ (x : Plan). Gains p.shorts (values_in 2 x.shorts (within parcel d.parts.body)) c.put-shorts.new.shorts) e c.put-shorts.ensures;
-      words = subst (λ (x : Plan). Gains p.words (values_in 4 x.words (within parcel d.parts.body)) c.put-words.new.words) e c.put-words.ensures;
-      longs = subst (λ (x : Plan). Gains p.longs (values_in 8 x.longs (within parcel d.parts.body)) c.put-longs.new.longs) e c.put-longs.ensures;
-      offsets = subst (λ (x : Plan). Gains p.offsets (values_in (wide_bytes x.wide) x.offsets (within parcel d.parts.body)) c.put-offsets.new.offsets) e c.put-offsets.ensures;
-      views = subst (λ (x : Plan). Gains p.views (halves_in x.views (within parcel d.parts.body)) c.put-views.new.views) e c.put-views.ensures;
+          subst (λ (x : Plan). Gains p.bytes ((within parcel d.head.format ++ (mask_sent parcel d.parts.mask ++ within parcel x.plain)) ++ flat (brought_by parcel d)) c.put_brought.new.bytes) e
+          (grown_then c.put_bytes-mask.ensures.added c.put_brought.ensures.bytes);
+      shorts = subst (λ (x : Plan). Gains p.shorts (values_in 2 x.shorts (within parcel d.parts.body)) c.put_shorts.new.shorts) e c.put_shorts.ensures;
+      words = subst (λ (x : Plan). Gains p.words (values_in 4 x.words (within parcel d.parts.body)) c.put_words.new.words) e c.put_words.ensures;
+      longs = subst (λ (x : Plan). Gains p.longs (values_in 8 x.longs (within parcel d.parts.body)) c.put_longs.new.longs) e c.put_longs.ensures;
+      offsets = subst (λ (x : Plan). Gains p.offsets (values_in (wide_bytes x.wide) x.offsets (within parcel d.parts.body)) c.put_offsets.new.offsets) e c.put_offsets.ensures;
+      views = subst (λ (x : Plan). Gains p.views (halves_in x.views (within parcel d.parts.body)) c.put_views.new.views) e c.put_views.ensures;
       lists =
-          subst (λ (x : Plan). Gains p.lists (map number_of (data_from parcel x.list.start p.buffers.mark x.list.len)) c.put-numbers-buffers.new.lists) e
-          (subst (λ (n : Marks). Gains p.lists (map number_of (data_from parcel c.plan-for-plan.result.list.start n.buffers c.plan-for-plan.result.list.len)) c.put-numbers-buffers.new.lists) marks c.put-numbers-buffers.ensures.added);
+          subst (λ (x : Plan). Gains p.lists (map number_of (data_from parcel x.list.start p.buffers.mark x.list.len)) c.put_numbers-buffers.new.lists) e
+          (subst (λ (n : Marks). Gains p.lists (map number_of (data_from parcel c.plan_for-plan.result.list.start n.buffers c.plan_for-plan.result.list.len)) c.put_numbers-buffers.new.lists) marks c.put_numbers-buffers.ensures.added);
       buffers =
-          subst (λ (n : ℕ). Gains p.buffers (parts_from n (brought_by parcel d)) c.put-brought.new.buffers) after c.put-brought.ensures.buffers;
+          subst (λ (n : ℕ). Gains p.buffers (parts_from n (brought_by parcel d)) c.put_brought.new.buffers) after c.put_brought.ensures.buffers;
     }

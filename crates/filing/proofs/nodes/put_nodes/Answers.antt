@@ -23,8 +23,8 @@ blank =
 pub loop-i-init : goal.loop-i-init
 loop-i-init c = storing_start _ _ _ _ c.requires.ready c.requires.room
 
-pub put-node-requires : goal.put-node-requires
-put-node-requires c =
+pub put_node-requires : goal.put_node-requires
+put_node-requires c =
     let k = All-get_or (Drafted c.args.parcel.now) c.args.drafts.now c.loop-i.i blank c.loop-i-test.true c.requires.drafted in
     let f = All-get_or Filled c.args.drafts.now c.loop-i.i blank c.loop-i-test.true c.requires.filled in
     record {
@@ -37,8 +37,8 @@ pub loop-i-preserved : goal.loop-i-preserved
 loop-i-preserved c =
     let k = All-get_or (Drafted c.args.parcel.now) c.args.drafts.now c.loop-i.i blank c.loop-i-test.true c.requires.drafted in
     let f = All-get_or Filled c.args.drafts.now c.loop-i.i blank c.loop-i-test.true c.requires.filled in
-    let small : Bytes c.args.parcel.now = All-from_get_or (λ b. b < 256) c.args.parcel.now 0 (λ i h. omega (arith, c.type-inv.parcel i)) in
-    storing_more _ _ _ _ _ _ blank c.loop-i.invariant c.loop-i-test.true _ c.requires.spans small k f c.put-node.ensures
+    let small : Bytes c.args.parcel.now = All-from_get_or (λ b. b < 256) c.args.parcel.now 0 (λ i h. omega (arith, c.type_inv.parcel i)) in
+    storing_more _ _ _ _ _ _ blank c.loop-i.invariant c.loop-i-test.true _ c.requires.spans small k f c.put_node.ensures
 
 pub returns : goal.returns
 returns c = storing_end _ _ _ _ _ c.loop-i.i c.requires.spans c.loop-i-test.false c.loop-i.invariant

@@ -14,7 +14,7 @@ returns c =
       arith,
       ap little_endian a,
       ap little_endian b,
-      c.word-at.ensures,
-      c.word-at-2.ensures,
+      c.word_at.ensures,
+      c.word_at-2.ensures,
       ap little_endian (e ∙ ap₂ (λ (x y : List ℕ). x ++ y) a b),
     )

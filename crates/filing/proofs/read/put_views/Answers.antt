@@ -21,7 +21,7 @@ loop-i-preserved c =
     let high = high_read c.args.parcel.now c.args.body.start c.args.body.len c.loop-i.i fits in (
       omega (arith, c.append.ensures.mark, c.loop-i.invariant.0),
       grown_span (halves_at (within c.args.parcel.now c.args.body)) c.loop-i.i _
-          (ap₂ (λ (x y : ℕ). (let h : Halves = record { low = x; high = y } in h)) (c.long-at.ensures ∙ ap little_endian low) (c.long-at-in-loop-i.ensures ∙ ap little_endian high))
+          (ap₂ (λ (x y : ℕ). (let h : Halves = record { low = x; high = y } in h)) (c.long_at.ensures ∙ ap little_endian low) (c.long_at-in-loop-i.ensures ∙ ap little_endian high))
           c.loop-i.invariant.1 c.append.ensures,
     )
 

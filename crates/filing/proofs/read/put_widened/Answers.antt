@@ -16,7 +16,7 @@ pub loop-i-preserved : goal.loop-i-preserved
 loop-i-preserved c = (
   omega (arith, c.append.ensures.mark, c.loop-i.invariant.0),
   grown_span (value_at 4 (within c.args.parcel.now c.args.body)) c.loop-i.i _
-      (c.word-at.ensures ∙ value_in c.args.parcel.now c.args.body.start c.args.body.len 4 c.loop-i.i (omega (arith, c.requires.filled, c.loop-i-test.true)))
+      (c.word_at.ensures ∙ value_in c.args.parcel.now c.args.body.start c.args.body.len 4 c.loop-i.i (omega (arith, c.requires.filled, c.loop-i-test.true)))
       c.loop-i.invariant.1 c.append.ensures,
 )
 

@@ -31,8 +31,8 @@ pub loop-i-init : goal.loop-i-init
 loop-i-init c =
     (omega arith, spans_start (map children_in c.args.drafts.now) c.args.spans.now (length c.args.drafts.now) (omega (arith, length-map c.args.drafts.now children_in)) (omega (arith, c.requires.same)))
 
-pub span-at-span-requires : goal.span-at-span-requires
-span-at-span-requires c =
+pub span_at-span-requires : goal.span_at-span-requires
+span_at-span-requires c =
     let l : c.loop-i.i - 1 < length c.args.drafts.now = omega (arith, c.loop-i.invariant.0, c.loop-i-test.true) in
     record {
       few =
@@ -47,8 +47,8 @@ loop-i-preserved c =
     let l : c.loop-i.i - 1 < length c.args.drafts.now = omega (arith, c.loop-i.invariant.0, c.loop-i-test.true) in (
       omega (arith, l),
       spans_more (map children_in c.args.drafts.now) c.loop-i.spans (c.loop-i.i - 1) (omega (arith, l, length-map c.args.drafts.now children_in)) (omega (arith, l, c.requires.same, c.loop-i.auto.spans))
-          (after c.args.drafts.now c.loop-i.spans c.loop-i.i c.loop-i-test.true c.loop-i.invariant.1) c.span-at-span.result
-          (c.span-at-span.ensures ∙ ap (λ (k : ℕ). 1 + spanned k (drop (c.loop-i.i - 1 + 1) c.loop-i.spans)) (count c.args.drafts.now (c.loop-i.i - 1) l)),
+          (after c.args.drafts.now c.loop-i.spans c.loop-i.i c.loop-i-test.true c.loop-i.invariant.1) c.span_at-span.result
+          (c.span_at-span.ensures ∙ ap (λ (k : ℕ). 1 + spanned k (drop (c.loop-i.i - 1 + 1) c.loop-i.spans)) (count c.args.drafts.now (c.loop-i.i - 1) l)),
     )
 
 pub returns : goal.returns

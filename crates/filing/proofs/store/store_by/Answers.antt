@@ -11,8 +11,8 @@ use Rattle.filing.proofs.Plain.{plain}
 use Rattle.filing.proofs.Accepting.{told, no_columns, with_columns, kept_column, fits_column, shown}
 use Rattle.filing.proofs.store.store_by.Goals as goal
 
-pub fill-spans-requires : goal.fill-spans-requires
-fill-spans-requires c =
+pub fill_spans-requires : goal.fill_spans-requires
+fill_spans-requires c =
     let t = plain c.args.pools.now c.args.parcel.now c.args.drafts.now c.requires.ready c.requires.drafted c.requires.few c.requires.accepted in
     record {
       same = omega (arith, length-take (length c.args.drafts.now - 0) c.args.table.now, c.requires.table);
@@ -24,8 +24,8 @@ pub append-requires : goal.append-requires
 append-requires c =
     (plain c.args.pools.now c.args.parcel.now c.args.drafts.now c.requires.ready c.requires.drafted c.requires.few c.requires.accepted).column_room
 
-pub put-nodes-requires : goal.put-nodes-requires
-put-nodes-requires c =
+pub put_nodes-requires : goal.put_nodes-requires
+put_nodes-requires c =
     let t = plain c.args.pools.now c.args.parcel.now c.args.drafts.now c.requires.ready c.requires.drafted c.requires.few c.requires.accepted in
     let e : ColumnEntry = record { root = c.args.pools.now.nodes.mark } in
     record {
@@ -34,19 +34,19 @@ put-nodes-requires c =
       filled = t.filled;
       room = fits_column c.args.pools.now c.append.new.self e (takes_all c.args.parcel.now c.args.drafts.now) (no_columns c.args.parcel.now c.args.drafts.now) t.column_room c.append.ensures t.room;
       spans =
-          omega (arith, ap length c.fill-spans.ensures, spans_length (map children_in c.args.drafts.now), length-map c.args.drafts.now children_in);
+          omega (arith, ap length c.fill_spans.ensures, spans_length (map children_in c.args.drafts.now), length-map c.args.drafts.now children_in);
     }
 
 pub returns : goal.returns
 returns c =
     let e : ColumnEntry = record { root = c.args.pools.now.nodes.mark } in
     let t = plain c.args.pools.now c.args.parcel.now c.args.drafts.now c.requires.ready c.requires.drafted c.requires.few c.requires.accepted in
-    let filed : Filed (with_columns c.args.pools.now c.append.new.self) c.put-nodes.new.pools c.args.parcel.now c.args.drafts.now (spans_of (map children_in c.args.drafts.now)) =
-    subst (λ (l : List ℕ). Filed (with_columns c.args.pools.now c.append.new.self) c.put-nodes.new.pools c.args.parcel.now c.args.drafts.now l) c.fill-spans.ensures c.put-nodes.ensures in
+    let filed : Filed (with_columns c.args.pools.now c.append.new.self) c.put_nodes.new.pools c.args.parcel.now c.args.drafts.now (spans_of (map children_in c.args.drafts.now)) =
+    subst (λ (l : List ℕ). Filed (with_columns c.args.pools.now c.append.new.self) c.put_nodes.new.pools c.args.parcel.now c.args.drafts.now l) c.fill_spans.ensures c.put_nodes.ensures in
     record {
       kept = kept_then (kept_column c.args.pools.now c.append.new.self e c.requires.ready t.column_room c.append.ensures) filed.kept;
       entry = grown_then c.append.ensures filed.columns;
       shown = λ s slip a.
-          shown c.args.pools.now c.put-nodes.new.pools c.append.new.self s c.args.parcel.now c.args.drafts.now
+          shown c.args.pools.now c.put_nodes.new.pools c.append.new.self s c.args.parcel.now c.args.drafts.now
           (told c.args.pools.now slip s c.args.parcel.now c.args.drafts.now c.requires.ready c.requires.drafted a) c.requires.ready a.shows c.append.ensures filed (no_columns c.args.parcel.now c.args.drafts.now);
     }

@@ -5,16 +5,16 @@ use Rattle.formats.specs.Spelled.{digits_from as go}
 use Rattle.formats.proofs.Decimals.{go_bad, go_on, capped_small}
 use Rattle.formats.proofs.decimal.follow.Goals as goal
 
-pub returns-in-err-d : goal.returns-in-err-d
-returns-in-err-d c =
-    c.from-residual.ensures
-    ∙ sym (go_bad c.args.rest.now c.loop-b.b-index c.loop-b.n c.loop-b-test.true (c.in-err-d.ensures ∙ ap digit_of c.from.ensures))
+pub returns-in_err-d : goal.returns-in_err-d
+returns-in_err-d c =
+    c.from_residual.ensures
+    ∙ sym (go_bad c.args.rest.now c.loop-b.b-index c.loop-b.n c.loop-b-test.true (c.in_err-d.ensures ∙ ap digit_of c.from.ensures))
     ∙ c.loop-b.invariant.0
 
-pub returns-in-err-n : goal.returns-in-err-n
-returns-in-err-n c =
-    c.from-residual-in-err-n.ensures
-    ∙ sym (go_on c.args.rest.now c.loop-b.b-index c.loop-b.n c.in-ok-d.d None c.loop-b-test.true (c.in-ok-d.ensures ∙ ap digit_of c.from.ensures) c.in-err-n.ensures)
+pub returns-in_err-n : goal.returns-in_err-n
+returns-in_err-n c =
+    c.from_residual-in_err-n.ensures
+    ∙ sym (go_on c.args.rest.now c.loop-b.b-index c.loop-b.n c.in_ok-d.d None c.loop-b-test.true (c.in_ok-d.ensures ∙ ap digit_of c.from.ensures) c.in_err-n.ensures)
     ∙ c.loop-b.invariant.0
 
 pub loop-b-preserved : goal.loop-b-preserved

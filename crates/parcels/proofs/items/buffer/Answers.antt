@@ -11,14 +11,14 @@ use Rattle.denials.specs.declared.Denial.{Denial}
 use Rattle.parcels.proofs.Reading.{buffer_short, buffer_long, rest_length}
 use Rattle.parcels.proofs.items.buffer.Goals as goal
 
-pub returns-in-default : goal.returns-in-default
-returns-in-default c =
-    record { reads = λ bs. sym (buffer_short c.args.parcel.now c.args.place bs c.requires.inside (omega (arith, simp (take_rest, length-drop) at c.in-default.ensures))); inside = tt }
+pub returns-in_default : goal.returns-in_default
+returns-in_default c =
+    record { reads = λ bs. sym (buffer_short c.args.parcel.now c.args.place bs c.requires.inside (omega (arith, simp (take_rest, length-drop) at c.in_default.ensures))); inside = tt }
 
-pub returns-in-err-after : goal.returns-in-err-after
-returns-in-err-after c =
-    let p = err_from_is_err_and c.from-residual.result c.from-residual.ensures.1 in
-    let e = c.in-err-after.ensures in
+pub returns-in_err-after : goal.returns-in_err-after
+returns-in_err-after c =
+    let p = err_from_is_err_and c.from_residual.result c.from_residual.ensures.1 in
+    let e = c.in_err-after.ensures in
     rw (p.1, p.2)
     record {
       reads = λ bs.
@@ -29,7 +29,7 @@ returns-in-err-after c =
 
 pub returns : goal.returns
 returns c =
-    let e = c.in-ok-after.ensures in
+    let e = c.in_ok-after.ensures in
     record {
       reads = λ bs.
           ap (λ (q : Place). reached (within c.args.parcel.now (record { start = c.args.place.at + 4; len = c.in-Some.len })) (placed c.args.parcel.now q bs)) e.0

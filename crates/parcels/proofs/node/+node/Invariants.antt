@@ -11,5 +11,5 @@ decreases-node l = l.levels
 abbrev pub invariant-loop-k : goal.invariant-loop-k
 invariant-loop-k l =
     ((bs : List (List ℕ)) (before : ℕ)
-    → Kids l.parcel before (l.levels - 1) (roles (kind_of (within l.parcel l.opened.head.format)) (head_of l.parcel l.opened.head)) l.initial.here bs l.own_val l.k l.here l.below l.drafts)
+    → Kids l.parcel before (l.levels - 1) (roles (kind_of (within l.parcel l.opened.head.format)) (head_of l.parcel l.opened.head)) l.initial.here bs l.own l.k l.here l.below l.drafts)
     × KidsInside l.parcel l.initial.here l.here l.initial.drafts l.drafts

@@ -4,4 +4,4 @@ use Rattle.parcels.proofs.Walk.{Walked}
 use Rattle.parcels.proofs.parts.listed.Given as goal
 
 abbrev pub invariant-loop-k : goal.invariant-loop-k
-invariant-loop-k l = ((bs : List (List ℕ)) → Walked l.parcel l.initial.here bs l.count l.-k l.here) × Fair l.parcel l.here × (l.here.nodes ≡ l.initial.here.nodes)
+invariant-loop-k l = ((bs : List (List ℕ)) → Walked l.parcel l.initial.here bs l.count l._k l.here) × Fair l.parcel l.here × (l.here.nodes ≡ l.initial.here.nodes)

@@ -2,4 +2,4 @@ use Rattle.reading.proofs.Pens as shown
 use Rattle.reading.proofs.laws.pens_write_in_front.Goals as goal
 
 pub returns : goal.returns
-returns c = shown.pens-write-in-front
+returns c = shown.pens_write_in_front

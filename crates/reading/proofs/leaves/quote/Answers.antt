@@ -21,7 +21,7 @@ loop-k-preserved c =
     let xs = used c.args.bytes.now in
     let a = c.args.part.start in let n = c.args.part.len in let k = c.loop-k.k in
     let rest : List ℕ = flat_map hex_byte (slice xs (a + (k + 1)) (n - (k + 1))) ++ codes "\"" in
-    piece c.loop-k.pen c.byte.new.self (hex_byte (get_or xs (a + k) 0)) rest (c.byte.ensures ∙ ap (λ b. wrote c.loop-k.pen (hex_byte b)) c.byte-of.ensures)
+    piece c.loop-k.pen c.byte.new.self (hex_byte (get_or xs (a + k) 0)) rest (c.byte.ensures ∙ ap (λ b. wrote c.loop-k.pen (hex_byte b)) c.byte_of.ensures)
     ∙ ap (λ bs. wrote c.loop-k.pen (flat_map hex_byte bs ++ codes "\"")) (sym (slice_more xs a n k 0 (omega arith) (omega arith)))
     ∙ c.loop-k.invariant
 

@@ -15,9 +15,9 @@ returns c =
     let f = c.min-front.result in
     let x : List ℕ = flat_map hex_byte (le_bytes f a) in let y : List ℕ = flat_map hex_byte (le_bytes (n - f) b) in
     let m : min n 4 ≡ f = search rules in
-    last c.low-bytes-2.new.self c.put-2.new.self 34 c.put-2.ensures
-    ∙ piece c.low-bytes.new.self c.low-bytes-2.new.self y (34 ∷ []) c.low-bytes-2.ensures
-    ∙ piece c.put.new.self c.low-bytes.new.self x (y ++ 34 ∷ []) (c.low-bytes.ensures ∙ ap (λ v. wrote c.put.new.self (flat_map hex_byte (le_bytes f v))) c.prefix.ensures)
+    last c.low_bytes-2.new.self c.put-2.new.self 34 c.put-2.ensures
+    ∙ piece c.low_bytes.new.self c.low_bytes-2.new.self y (34 ∷ []) c.low_bytes-2.ensures
+    ∙ piece c.put.new.self c.low_bytes.new.self x (y ++ 34 ∷ []) (c.low_bytes.ensures ∙ ap (λ v. wrote c.put.new.self (flat_map hex_byte (le_bytes f v))) c.prefix.ensures)
     ∙ step c.args.pen.now c.put.new.self 34 (x ++ (y ++ 34 ∷ [])) c.put.ensures
     ∙ ap (λ (t : List ℕ). wrote c.args.pen.now (34 ∷ t))
     (joined_both hex_byte (le_bytes f a) (le_bytes (n - f) b) (34 ∷ [])

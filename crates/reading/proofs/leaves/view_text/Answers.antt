@@ -28,8 +28,8 @@ listed-buffer-requires c =
       known = subst (λ p. get_or P.lists (c.args.list.start + p) 0 < length P.buffers) (sym b.is_position) l.known;
     }
 
-pub from-offset-part-requires : goal.from-offset-part-requires
-from-offset-part-requires c =
+pub from_offset-part-requires : goal.from_offset-part-requires
+from_offset-part-requires c =
     let b = buffered_is c.args.view c.in-Buffered.len _ c.in-Buffered.position c.in-Buffered.offset c.in-Buffered.ensures in
     let l = (long_lies (store c.args.pools.now) c.args.list c.args.view c.requires.within b.is_long).within in
     let f = few c.args.pools.now.bytes c.requires.ready.bytes in
@@ -41,7 +41,7 @@ quote-requires c =
     let b = buffered_is c.args.view c.in-Buffered.len _ c.in-Buffered.position c.in-Buffered.offset c.in-Buffered.ensures in
     let l = (long_lies (store c.args.pools.now) c.args.list c.args.view c.requires.within b.is_long).within in
     let e = ap (λ (p : Part). p.start) (c.listed-buffer.ensures ∙ ap (λ p. listed_part (store c.args.pools.now) (c.args.list.start + p)) b.is_position) in
-    let o = b.is_offset in let z = b.is_len in let s = c.from-offset-part.ensures.start in let n = c.from-offset-part.ensures.len in
+    let o = b.is_offset in let z = b.is_len in let s = c.from_offset-part.ensures.start in let n = c.from_offset-part.ensures.len in
     record { ready = c.requires.ready.bytes; within = omega arith }
 
 pub returns-in-Buffered : goal.returns-in-Buffered
@@ -50,7 +50,7 @@ returns-in-Buffered c =
     let b = buffered_is c.args.view c.in-Buffered.len _ c.in-Buffered.position c.in-Buffered.offset c.in-Buffered.ensures in
     let l = (long_lies P c.args.list c.args.view c.requires.within b.is_long).is_text in
     let e = ap (λ (p : Part). p.start) (c.listed-buffer.ensures ∙ ap (λ p. listed_part P (c.args.list.start + p)) b.is_position) in
-    let at_start : c.from-offset-part.result.start ≡ (listed_part P (c.args.list.start + c.args.view.high % 2 ^ 32)).start + c.args.view.high / 2 ^ 32 =
-    c.from-offset-part.ensures.start ∙ ap₂ ◌+◌ e b.is_offset in
+    let at_start : c.from_offset-part.result.start ≡ (listed_part P (c.args.list.start + c.args.view.high % 2 ^ 32)).start + c.args.view.high / 2 ^ 32 =
+    c.from_offset-part.ensures.start ∙ ap₂ ◌+◌ e b.is_offset in
     c.quote.ensures
-    ∙ ap (λ bs. wrote c.args.pen.now (quoted bs)) (ap₂ (slice P.bytes) at_start (c.from-offset-part.ensures.len ∙ b.is_len) ∙ l)
+    ∙ ap (λ bs. wrote c.args.pen.now (quoted bs)) (ap₂ (slice P.bytes) at_start (c.from_offset-part.ensures.len ∙ b.is_len) ∙ l)

@@ -8,6 +8,6 @@ use Rattle.reading.proofs.read.fits.Goals as goal
 pub returns : goal.returns
 returns c =
     record {
-      same = ∥∥₁_elim c.requires.given (is_set ℕ_set _ _) (λ g. dry_same _ _ c.put-row.new.pen _ (c.put-row.ensures g.0 g.1) (search rules));
-      told = λ d q. dry_tells _ c.put-row.new.pen _ (c.put-row.ensures d q);
+      same = ∥∥₁_elim c.requires.given (is_set ℕ_set _ _) (λ g. dry_same _ _ c.put_row.new.pen _ (c.put_row.ensures g.0 g.1) (search rules));
+      told = λ d q. dry_tells _ c.put_row.new.pen _ (c.put_row.ensures d q);
     }

@@ -19,117 +19,117 @@ use Rattle.reading.proofs.Speaks.{held, known, deep, shape_at, null_at, part_at,
 use Rattle.reading.proofs.row.+put_fields_put_row_put_rows.Goals as goal
 
 -- A row of each of some columns.
-pub put-fields-loop-k-init : goal.put-fields-loop-k-init
-put-fields-loop-k-init t c = λ cs r. fields_start cs r
+pub put_fields-loop-k-init : goal.put_fields-loop-k-init
+put_fields-loop-k-init t c = λ cs r. fields_start cs r
 
-pub put-fields-returns-then-pen : goal.put-fields-returns-then-pen
-put-fields-returns-then-pen t c = λ cs r. let w = c.loop-k.invariant cs r in sym (wrote_full c.loop-k.pen (commas_from c.loop-k.k (texts_of (store c.args.pools.now) w.left c.args.row)) c.if-pen.true) ∙ w.gives
+pub put_fields-returns-then-pen : goal.put_fields-returns-then-pen
+put_fields-returns-then-pen t c = λ cs r. let w = c.loop-k.invariant cs r in sym (wrote_full c.loop-k.pen (commas_from c.loop-k.k (texts_of (store c.args.pools.now) w.left c.args.row)) c.if-pen.true) ∙ w.gives
 
-pub put-fields-put-row-requires : goal.put-fields-put-row-requires
-put-fields-put-row-requires t c =
+pub put_fields-put_row-requires : goal.put_fields-put_row-requires
+put_fields-put_row-requires t c =
     let l = c.loop-k-test.true in
     let m : c.args.levels < c.args.levels + 1 = omega arith in
     (omega arith, (c.requires.ready, ∥∥₁_map c.requires.given (λ g. let w = c.loop-k.invariant g.0 g.1 in (first w.left, field_first w.left (let n = w.readable.count_is in omega arith) w.readable))))
 
-pub put-fields-next-child-place-requires : goal.put-fields-next-child-place-requires
-put-fields-next-child-place-requires t c =
+pub put_fields-next_child-place-requires : goal.put_fields-next_child-place-requires
+put_fields-next_child-place-requires t c =
     let l = c.loop-k-test.true in
     record { standing = c.requires.ready.nodes; there = ∥∥₁_elim c.requires.given le_prop (λ g. let w = c.loop-k.invariant g.0 g.1 in known (first w.left) (field_first w.left (let n = w.readable.count_is in omega arith) w.readable).column) }
 
-pub put-fields-loop-k-preserved : goal.put-fields-loop-k-preserved
-put-fields-loop-k-preserved t c = λ cs r.
+pub put_fields-loop-k-preserved : goal.put_fields-loop-k-preserved
+put_fields-loop-k-preserved t c = λ cs r.
     let w = c.loop-k.invariant cs r in
     let l = c.loop-k-test.true in
     let n = w.readable.count_is in
-    fields_next c.loop-k.pen c.comma.new.pen c.put-row.new.pen c.next-child-place.result cs l w
-    (comma_is c.loop-k.k c.loop-k.pen c.comma.new.pen c.comma.ensures) (c.put-row.ensures (first w.left) (field_first w.left (omega arith) w.readable))
-    (c.next-child-place.ensures.told (store c.args.pools.now) w.left refl (omega arith) w.readable.stored).1
+    fields_next c.loop-k.pen c.comma.new.pen c.put_row.new.pen c.next_child-place.result cs l w
+    (comma_is c.loop-k.k c.loop-k.pen c.comma.new.pen c.comma.ensures) (c.put_row.ensures (first w.left) (field_first w.left (omega arith) w.readable))
+    (c.next_child-place.ensures.told (store c.args.pools.now) w.left refl (omega arith) w.readable.stored).1
 
-pub put-fields-returns : goal.put-fields-returns
-put-fields-returns t c = λ cs r. fields_end c.loop-k.pen cs c.loop-k-test.false (c.loop-k.invariant cs r)
+pub put_fields-returns : goal.put_fields-returns
+put_fields-returns t c = λ cs r. fields_end c.loop-k.pen cs c.loop-k-test.false (c.loop-k.invariant cs r)
 
 -- A row.
-pub put-row-node-at-node-requires : goal.put-row-node-at-node-requires
-put-row-node-at-node-requires t c = ∥∥₁_elim c.requires.given le_prop (λ g. known g.0 g.1.column)
+pub put_row-node_at-node-requires : goal.put_row-node_at-node-requires
+put_row-node_at-node-requires t c = ∥∥₁_elim c.requires.given le_prop (λ g. known g.0 g.1.column)
 
-pub put-row-is-null-requires : goal.put-row-is-null-requires
-put-row-is-null-requires t c =
-    ∥∥₁_elim c.requires.given (mask_there_prop (store c.args.pools.now).bytes c.node-at-node.result.mask c.args.row)
-    (λ g. subst (λ (x : Entry). MaskThere (store c.args.pools.now).bytes x.mask c.args.row) (sym c.node-at-node.ensures.is) (mask_there g.0 g.1))
+pub put_row-is_null-requires : goal.put_row-is_null-requires
+put_row-is_null-requires t c =
+    ∥∥₁_elim c.requires.given (mask_there_prop (store c.args.pools.now).bytes c.node_at-node.result.mask c.args.row)
+    (λ g. subst (λ (x : Entry). MaskThere (store c.args.pools.now).bytes x.mask c.args.row) (sym c.node_at-node.ensures.is) (mask_there g.0 g.1))
 
-pub put-row-returns-then-is-null : goal.put-row-returns-then-is-null
-put-row-returns-then-is-null t c = λ d q.
+pub put_row-returns-then-is_null : goal.put_row-returns-then-is_null
+put_row-returns-then-is_null t c = λ d q.
     last c.args.pen.now c.put.new.self 45 c.put.ensures
-    ∙ ap (wrote c.args.pen.now) (sym (null_text d q (null_at (store c.args.pools.now) c.args.place c.args.row false c.node-at-node.ensures.is c.is-null.ensures c.if-is-null.true)))
+    ∙ ap (wrote c.args.pen.now) (sym (null_text d q (null_at (store c.args.pools.now) c.args.place c.args.row false c.node_at-node.ensures.is c.is_null.ensures c.if-is_null.true)))
 
-pub put-row-leaf-requires : goal.put-row-leaf-requires
-put-row-leaf-requires t c =
-    let e = c.node-at-node.ensures.is in
+pub put_row-leaf-requires : goal.put_row-leaf-requires
+put_row-leaf-requires t c =
+    let e = c.node_at-node.ensures.is in
     record {
       ready = c.requires.ready;
       within =
-          ∥∥₁_elim c.requires.given (leaf_in_prop (store c.args.pools.now) c.node-at-node.result c.node-at-node.result.kind c.args.row)
+          ∥∥₁_elim c.requires.given (leaf_in_prop (store c.args.pools.now) c.node_at-node.result c.node_at-node.result.kind c.args.row)
           (λ g. subst (λ (x : Entry). LeafIn (store c.args.pools.now) x x.kind c.args.row) (sym e) (leaf_there g.0 g.1 (shape_at (store c.args.pools.now) c.args.place e c.in-Leaf.ensures)));
     }
 
-pub put-row-returns-in-Leaf : goal.put-row-returns-in-Leaf
-put-row-returns-in-Leaf t c = λ d q.
-    let e = c.node-at-node.ensures.is in
+pub put_row-returns-in-Leaf : goal.put_row-returns-in-Leaf
+put_row-returns-in-Leaf t c = λ d q.
+    let e = c.node_at-node.ensures.is in
     c.leaf.ensures
     ∙ ap (wrote c.args.pen.now) (ap (λ (x : Entry). leaf_text (store c.args.pools.now) x x.kind c.args.row) e
-    ∙ sym (leaf_row d q (null_at (store c.args.pools.now) c.args.place c.args.row true e c.is-null.ensures c.if-is-null.false) (shape_at (store c.args.pools.now) c.args.place e c.in-Leaf.ensures)))
+    ∙ sym (leaf_row d q (null_at (store c.args.pools.now) c.args.place c.args.row true e c.is_null.ensures c.if-is_null.false) (shape_at (store c.args.pools.now) c.args.place e c.in-Leaf.ensures)))
 
-pub put-row-range-at-rows-requires : goal.put-row-range-at-rows-requires
-put-row-range-at-rows-requires t c =
-    let e = c.node-at-node.ensures.is in
-    ∥∥₁_elim c.requires.given (range_there_prop (store c.args.pools.now).offsets c.node-at-node.result.kind c.node-at-node.result.place c.args.row)
+pub put_row-range_at-rows-requires : goal.put_row-range_at-rows-requires
+put_row-range_at-rows-requires t c =
+    let e = c.node_at-node.ensures.is in
+    ∥∥₁_elim c.requires.given (range_there_prop (store c.args.pools.now).offsets c.node_at-node.result.kind c.node_at-node.result.place c.args.row)
     (λ g. subst (λ (x : Entry). RangeThere (store c.args.pools.now).offsets x.kind x.place c.args.row) (sym e) (range_there g.0 g.1 (shape_at (store c.args.pools.now) c.args.place e c.in-Ranges.ensures)))
 
-pub put-row-overflow-add-place : goal.put-row-overflow-add-place
-put-row-overflow-add-place t c = let k : c.args.place < length (store c.args.pools.now).nodes = ∥∥₁_elim c.requires.given le_prop (λ g. known g.0 g.1.column) in let f = few c.args.pools.now.nodes c.requires.ready.nodes in omega arith
+pub put_row-overflow_add-place : goal.put_row-overflow_add-place
+put_row-overflow_add-place t c = let k : c.args.place < length (store c.args.pools.now).nodes = ∥∥₁_elim c.requires.given le_prop (λ g. known g.0 g.1.column) in let f = few c.args.pools.now.nodes c.requires.ready.nodes in omega arith
 
-pub put-row-overflow-sub-levels : goal.put-row-overflow-sub-levels
-put-row-overflow-sub-levels t c = ∥∥₁_elim c.requires.given le_prop (λ g. deep g.0 g.1.column)
+pub put_row-overflow_sub-levels : goal.put_row-overflow_sub-levels
+put_row-overflow_sub-levels t c = ∥∥₁_elim c.requires.given le_prop (λ g. deep g.0 g.1.column)
 
-pub put-row-put-rows-requires : goal.put-row-put-rows-requires
-put-row-put-rows-requires t c =
-    let e = c.node-at-node.ensures.is in
+pub put_row-put_rows-requires : goal.put_row-put_rows-requires
+put_row-put_rows-requires t c =
+    let e = c.node_at-node.ensures.is in
     let d = ∥∥₁_elim c.requires.given le_prop (λ g. deep g.0 g.1.column) in (
       omega arith,
       (
         c.requires.ready,
         ∥∥₁_map c.requires.given (λ g. (
           first (children g.0),
-          subst (λ (p : Part). RowsReadable (store c.args.pools.now) (c.args.place + 1) (first (children g.0)) p (c.args.levels - 1)) (part_at (store c.args.pools.now) c.args.place c.args.row e c.range-at-rows.ensures.is)
+          subst (λ (p : Part). RowsReadable (store c.args.pools.now) (c.args.place + 1) (first (children g.0)) p (c.args.levels - 1)) (part_at (store c.args.pools.now) c.args.place c.args.row e c.range_at-rows.ensures.is)
               (rows_given g.0 g.1 (shape_at (store c.args.pools.now) c.args.place e c.in-Ranges.ensures)),
         )),
       ),
     )
 
-pub put-row-returns-in-Ranges : goal.put-row-returns-in-Ranges
-put-row-returns-in-Ranges t c = λ d q.
+pub put_row-returns-in-Ranges : goal.put_row-returns-in-Ranges
+put_row-returns-in-Ranges t c = λ d q.
     let P = store c.args.pools.now in
-    let e = c.node-at-node.ensures.is in
+    let e = c.node_at-node.ensures.is in
     let s = shape_at (store c.args.pools.now) c.args.place e c.in-Ranges.ensures in
-    let p = part_at (store c.args.pools.now) c.args.place c.args.row e c.range-at-rows.ensures.is in
+    let p = part_at (store c.args.pools.now) c.args.place c.args.row e c.range_at-rows.ensures.is in
     let kid = first (children d) in
-    let body : List ℕ = rows_text P kid c.range-at-rows.result in
-    last c.put-rows.new.pen c.put-in-Ranges-2.new.self 93 c.put-in-Ranges-2.ensures
-    ∙ piece c.put-in-Ranges.new.self c.put-rows.new.pen body (93 ∷ [])
-    (c.put-rows.ensures kid (subst (λ (x : Part). RowsReadable P (c.args.place + 1) kid x (c.args.levels - 1)) p (rows_given d q s)))
+    let body : List ℕ = rows_text P kid c.range_at-rows.result in
+    last c.put_rows.new.pen c.put-in-Ranges-2.new.self 93 c.put-in-Ranges-2.ensures
+    ∙ piece c.put-in-Ranges.new.self c.put_rows.new.pen body (93 ∷ [])
+    (c.put_rows.ensures kid (subst (λ (x : Part). RowsReadable P (c.args.place + 1) kid x (c.args.levels - 1)) p (rows_given d q s)))
     ∙ step c.args.pen.now c.put-in-Ranges.new.self 91 (body ++ 93 ∷ []) c.put-in-Ranges.ensures
     ∙ ap (λ (x : Part). wrote c.args.pen.now (91 ∷ (rows_text P kid x ++ 93 ∷ []))) (sym p)
-    ∙ ap (wrote c.args.pen.now) (sym (ranges_row d q (null_at (store c.args.pools.now) c.args.place c.args.row true e c.is-null.ensures c.if-is-null.false) s))
+    ∙ ap (wrote c.args.pen.now) (sym (ranges_row d q (null_at (store c.args.pools.now) c.args.place c.args.row true e c.is_null.ensures c.if-is_null.false) s))
 
-pub put-row-overflow-add-place-in-Fields : goal.put-row-overflow-add-place-in-Fields
-put-row-overflow-add-place-in-Fields t c = let k : c.args.place < length (store c.args.pools.now).nodes = ∥∥₁_elim c.requires.given le_prop (λ g. known g.0 g.1.column) in let f = few c.args.pools.now.nodes c.requires.ready.nodes in omega arith
+pub put_row-overflow_add-place-in-Fields : goal.put_row-overflow_add-place-in-Fields
+put_row-overflow_add-place-in-Fields t c = let k : c.args.place < length (store c.args.pools.now).nodes = ∥∥₁_elim c.requires.given le_prop (λ g. known g.0 g.1.column) in let f = few c.args.pools.now.nodes c.requires.ready.nodes in omega arith
 
-pub put-row-overflow-sub-levels-in-Fields : goal.put-row-overflow-sub-levels-in-Fields
-put-row-overflow-sub-levels-in-Fields t c = ∥∥₁_elim c.requires.given le_prop (λ g. deep g.0 g.1.column)
+pub put_row-overflow_sub-levels-in-Fields : goal.put_row-overflow_sub-levels-in-Fields
+put_row-overflow_sub-levels-in-Fields t c = ∥∥₁_elim c.requires.given le_prop (λ g. deep g.0 g.1.column)
 
-pub put-row-put-fields-requires : goal.put-row-put-fields-requires
-put-row-put-fields-requires t c =
-    let e = c.node-at-node.ensures.is in
+pub put_row-put_fields-requires : goal.put_row-put_fields-requires
+put_row-put_fields-requires t c =
+    let e = c.node_at-node.ensures.is in
     let d = ∥∥₁_elim c.requires.given le_prop (λ g. deep g.0 g.1.column) in (
       omega arith,
       (
@@ -142,27 +142,27 @@ put-row-put-fields-requires t c =
       ),
     )
 
-pub put-row-returns-in-Fields : goal.put-row-returns-in-Fields
-put-row-returns-in-Fields t c = λ d q.
+pub put_row-returns-in-Fields : goal.put_row-returns-in-Fields
+put_row-returns-in-Fields t c = λ d q.
     let P = store c.args.pools.now in
-    let e = c.node-at-node.ensures.is in
+    let e = c.node_at-node.ensures.is in
     let s = shape_at (store c.args.pools.now) c.args.place e c.in-Fields.ensures in
     let body : List ℕ = fields_text P (children d) c.args.row in
-    last c.put-fields.new.pen c.put-in-Fields-2.new.self 125 c.put-in-Fields-2.ensures
-    ∙ piece c.put-in-Fields.new.self c.put-fields.new.pen body (125 ∷ [])
-    (c.put-fields.ensures (children d) (subst (λ (x : Entry). FieldsReadable P (c.args.place + 1) (children d) x.children c.args.row (c.args.levels - 1)) (sym e) (fields_given d q s)))
+    last c.put_fields.new.pen c.put-in-Fields-2.new.self 125 c.put-in-Fields-2.ensures
+    ∙ piece c.put-in-Fields.new.self c.put_fields.new.pen body (125 ∷ [])
+    (c.put_fields.ensures (children d) (subst (λ (x : Entry). FieldsReadable P (c.args.place + 1) (children d) x.children c.args.row (c.args.levels - 1)) (sym e) (fields_given d q s)))
     ∙ step c.args.pen.now c.put-in-Fields.new.self 123 (body ++ 125 ∷ []) c.put-in-Fields.ensures
-    ∙ ap (wrote c.args.pen.now) (sym (fields_row d q (null_at (store c.args.pools.now) c.args.place c.args.row true e c.is-null.ensures c.if-is-null.false) s))
+    ∙ ap (wrote c.args.pen.now) (sym (fields_row d q (null_at (store c.args.pools.now) c.args.place c.args.row true e c.is_null.ensures c.if-is_null.false) s))
 
-pub put-row-overflow-add-place-in-Runs : goal.put-row-overflow-add-place-in-Runs
-put-row-overflow-add-place-in-Runs t c = let k : c.args.place < length (store c.args.pools.now).nodes = ∥∥₁_elim c.requires.given le_prop (λ g. known g.0 g.1.column) in let f = few c.args.pools.now.nodes c.requires.ready.nodes in omega arith
+pub put_row-overflow_add-place-in-Runs : goal.put_row-overflow_add-place-in-Runs
+put_row-overflow_add-place-in-Runs t c = let k : c.args.place < length (store c.args.pools.now).nodes = ∥∥₁_elim c.requires.given le_prop (λ g. known g.0 g.1.column) in let f = few c.args.pools.now.nodes c.requires.ready.nodes in omega arith
 
-pub put-row-overflow-add-place-in-Runs-2 : goal.put-row-overflow-add-place-in-Runs-2
-put-row-overflow-add-place-in-Runs-2 t c = let k : c.args.place < length (store c.args.pools.now).nodes = ∥∥₁_elim c.requires.given le_prop (λ g. known g.0 g.1.column) in let f = few c.args.pools.now.nodes c.requires.ready.nodes in omega arith
+pub put_row-overflow_add-place-in-Runs-2 : goal.put_row-overflow_add-place-in-Runs-2
+put_row-overflow_add-place-in-Runs-2 t c = let k : c.args.place < length (store c.args.pools.now).nodes = ∥∥₁_elim c.requires.given le_prop (λ g. known g.0 g.1.column) in let f = few c.args.pools.now.nodes c.requires.ready.nodes in omega arith
 
-pub put-row-run-at-entry-requires : goal.put-row-run-at-entry-requires
-put-row-run-at-entry-requires t c =
-    let s = shape_at (store c.args.pools.now) c.args.place c.node-at-node.ensures.is c.in-Runs.ensures in
+pub put_row-run_at-entry-requires : goal.put_row-run_at-entry-requires
+put_row-run_at-entry-requires t c =
+    let s = shape_at (store c.args.pools.now) c.args.place c.node_at-node.ensures.is c.in-Runs.ensures in
     record {
       ready = c.requires.ready;
       there = ∥∥₁_elim c.requires.given le_prop (λ g. (stored_node (store c.args.pools.now) (c.args.place + 1) (first (children g.0)) (ends_stored g.0 g.1 s)).0);
@@ -171,66 +171,66 @@ put-row-run-at-entry-requires t c =
           (λ g. ends_there g.0 g.1 s);
     }
 
-pub put-row-next-child-values-requires : goal.put-row-next-child-values-requires
-put-row-next-child-values-requires t c =
-    let s = shape_at (store c.args.pools.now) c.args.place c.node-at-node.ensures.is c.in-Runs.ensures in
+pub put_row-next_child-values-requires : goal.put_row-next_child-values-requires
+put_row-next_child-values-requires t c =
+    let s = shape_at (store c.args.pools.now) c.args.place c.node_at-node.ensures.is c.in-Runs.ensures in
     record { standing = c.requires.ready.nodes; there = ∥∥₁_elim c.requires.given le_prop (λ g. (stored_node (store c.args.pools.now) (c.args.place + 1) (first (children g.0)) (ends_stored g.0 g.1 s)).0) }
 
-pub put-row-overflow-sub-levels-in-Runs : goal.put-row-overflow-sub-levels-in-Runs
-put-row-overflow-sub-levels-in-Runs t c = ∥∥₁_elim c.requires.given le_prop (λ g. deep g.0 g.1.column)
+pub put_row-overflow_sub-levels-in-Runs : goal.put_row-overflow_sub-levels-in-Runs
+put_row-overflow_sub-levels-in-Runs t c = ∥∥₁_elim c.requires.given le_prop (λ g. deep g.0 g.1.column)
 
-pub put-row-put-row-requires : goal.put-row-put-row-requires
-put-row-put-row-requires t c =
+pub put_row-put_row-requires : goal.put_row-put_row-requires
+put_row-put_row-requires t c =
     let P = store c.args.pools.now in
-    let s = shape_at (store c.args.pools.now) c.args.place c.node-at-node.ensures.is c.in-Runs.ensures in
+    let s = shape_at (store c.args.pools.now) c.args.place c.node_at-node.ensures.is c.in-Runs.ensures in
     let d = ∥∥₁_elim c.requires.given le_prop (λ g. deep g.0 g.1.column) in (
       omega arith,
       (
         c.requires.ready,
         ∥∥₁_map c.requires.given (λ g. let two = two_children g.0 g.1 s in (
           nth (children g.0) 1,
-          subst (λ i. RowReadable P c.next-child-values.result (nth (children g.0) 1) i (c.args.levels - 1)) (sym c.run-at-entry.ensures)
-              (run_given g.0 c.next-child-values.result g.1 s
-              (c.next-child-values.ensures.told P (children g.0) refl (omega arith) (stored_children P c.args.place g.0 g.1.column.stored)).1),
+          subst (λ i. RowReadable P c.next_child-values.result (nth (children g.0) 1) i (c.args.levels - 1)) (sym c.run_at-entry.ensures)
+              (run_given g.0 c.next_child-values.result g.1 s
+              (c.next_child-values.ensures.told P (children g.0) refl (omega arith) (stored_children P c.args.place g.0 g.1.column.stored)).1),
         )),
       ),
     )
 
-pub put-row-returns-in-Runs : goal.put-row-returns-in-Runs
-put-row-returns-in-Runs t c = λ d q.
+pub put_row-returns-in-Runs : goal.put_row-returns-in-Runs
+put_row-returns-in-Runs t c = λ d q.
     let P = store c.args.pools.now in
-    let e = c.node-at-node.ensures.is in
+    let e = c.node_at-node.ensures.is in
     let s = shape_at (store c.args.pools.now) c.args.place e c.in-Runs.ensures in
     let two = two_children d q s in
-    c.put-row.ensures (nth (children d) 1)
-    (subst (λ i. RowReadable P c.next-child-values.result (nth (children d) 1) i (c.args.levels - 1)) (sym c.run-at-entry.ensures)
-    (run_given d c.next-child-values.result q s
-    (c.next-child-values.ensures.told P (children d) refl (omega arith) (stored_children P c.args.place d q.column.stored)).1))
-    ∙ ap (wrote c.args.pen.now) (ap (row_text P (nth (children d) 1)) c.run-at-entry.ensures ∙ sym (runs_row d q (null_at (store c.args.pools.now) c.args.place c.args.row true e c.is-null.ensures c.if-is-null.false) s))
+    c.put_row.ensures (nth (children d) 1)
+    (subst (λ i. RowReadable P c.next_child-values.result (nth (children d) 1) i (c.args.levels - 1)) (sym c.run_at-entry.ensures)
+    (run_given d c.next_child-values.result q s
+    (c.next_child-values.ensures.told P (children d) refl (omega arith) (stored_children P c.args.place d q.column.stored)).1))
+    ∙ ap (wrote c.args.pen.now) (ap (row_text P (nth (children d) 1)) c.run_at-entry.ensures ∙ sym (runs_row d q (null_at (store c.args.pools.now) c.args.place c.args.row true e c.is_null.ensures c.if-is_null.false) s))
 
 -- Some rows of a column.
-pub put-rows-loop-k-init : goal.put-rows-loop-k-init
-put-rows-loop-k-init t c = λ d r. ap (wrote c.args.pen.now) (rows_start (store c.args.pools.now) d c.args.rows)
+pub put_rows-loop-k-init : goal.put_rows-loop-k-init
+put_rows-loop-k-init t c = λ d r. ap (wrote c.args.pen.now) (rows_start (store c.args.pools.now) d c.args.rows)
 
-pub put-rows-returns-then-pen : goal.put-rows-returns-then-pen
-put-rows-returns-then-pen t c = λ d r. sym (wrote_full c.loop-k.pen (rows_left (store c.args.pools.now) d c.args.rows c.loop-k.k) c.if-pen.true) ∙ c.loop-k.invariant d r
+pub put_rows-returns-then-pen : goal.put_rows-returns-then-pen
+put_rows-returns-then-pen t c = λ d r. sym (wrote_full c.loop-k.pen (rows_left (store c.args.pools.now) d c.args.rows c.loop-k.k) c.if-pen.true) ∙ c.loop-k.invariant d r
 
-pub put-rows-row-of-requires : goal.put-rows-row-of-requires
-put-rows-row-of-requires t c =
+pub put_rows-row_of-requires : goal.put_rows-row_of-requires
+put_rows-row_of-requires t c =
     ∥∥₁_elim c.requires.given le_prop (λ g.
     let f = (held g.0 g.1.column).few_rows in
     let r = g.1.rows_in in
     let l = c.loop-k-test.true in omega arith)
 
-pub put-rows-put-row-requires : goal.put-rows-put-row-requires
-put-rows-put-row-requires t c = (omega arith, (c.requires.ready, ∥∥₁_map c.requires.given (λ g. (g.0, subst (λ i. RowReadable (store c.args.pools.now) c.args.place g.0 i c.args.levels) (sym c.row-of.ensures) (row_of_rows c.loop-k.k c.loop-k-test.true g.1)))))
+pub put_rows-put_row-requires : goal.put_rows-put_row-requires
+put_rows-put_row-requires t c = (omega arith, (c.requires.ready, ∥∥₁_map c.requires.given (λ g. (g.0, subst (λ i. RowReadable (store c.args.pools.now) c.args.place g.0 i c.args.levels) (sym c.row_of.ensures) (row_of_rows c.loop-k.k c.loop-k-test.true g.1)))))
 
-pub put-rows-loop-k-preserved : goal.put-rows-loop-k-preserved
-put-rows-loop-k-preserved t c = λ d r.
-    rows_next (store c.args.pools.now) d c.args.rows c.loop-k.k c.loop-k.pen c.comma.new.pen c.put-row.new.pen c.loop-k-test.true (comma_is c.loop-k.k c.loop-k.pen c.comma.new.pen c.comma.ensures)
-    (c.put-row.ensures d (subst (λ i. RowReadable (store c.args.pools.now) c.args.place d i c.args.levels) (sym c.row-of.ensures) (row_of_rows c.loop-k.k c.loop-k-test.true r))
-    ∙ ap (λ i. wrote c.comma.new.pen (row_text (store c.args.pools.now) d i)) c.row-of.ensures)
+pub put_rows-loop-k-preserved : goal.put_rows-loop-k-preserved
+put_rows-loop-k-preserved t c = λ d r.
+    rows_next (store c.args.pools.now) d c.args.rows c.loop-k.k c.loop-k.pen c.comma.new.pen c.put_row.new.pen c.loop-k-test.true (comma_is c.loop-k.k c.loop-k.pen c.comma.new.pen c.comma.ensures)
+    (c.put_row.ensures d (subst (λ i. RowReadable (store c.args.pools.now) c.args.place d i c.args.levels) (sym c.row_of.ensures) (row_of_rows c.loop-k.k c.loop-k-test.true r))
+    ∙ ap (λ i. wrote c.comma.new.pen (row_text (store c.args.pools.now) d i)) c.row_of.ensures)
     ∙ c.loop-k.invariant d r
 
-pub put-rows-returns : goal.put-rows-returns
-put-rows-returns t c = λ d r. rows_end (store c.args.pools.now) d c.args.rows c.loop-k.k c.loop-k.pen c.loop-k-test.false ∙ c.loop-k.invariant d r
+pub put_rows-returns : goal.put_rows-returns
+put_rows-returns t c = λ d r. rows_end (store c.args.pools.now) d c.args.rows c.loop-k.k c.loop-k.pen c.loop-k-test.false ∙ c.loop-k.invariant d r

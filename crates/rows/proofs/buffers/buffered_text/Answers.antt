@@ -7,7 +7,7 @@ use Rattle.rows.proofs.buffers.buffered_text.Goals as goal
 
 pub returns : goal.returns
 returns c =
-    let buffer = c.shelved-buffer.ensures ∙ ap (λ b. get_or (store c.args.pools.now).buffers b no_part) c.buffer-number.ensures in
+    let buffer = c.shelved-buffer.ensures ∙ ap (λ b. get_or (store c.args.pools.now).buffers b no_part) c.buffer_number.ensures in
     let is = c.inside.ensures ∙ ap (λ (p : Part). record { start = p.start + c.args.offset; len = c.args.len }) buffer in
     record {
       is = is;

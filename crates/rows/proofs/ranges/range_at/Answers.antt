@@ -4,22 +4,22 @@ use Rattle.rows.specs.Ranged.{row_range, RangeThere}
 use Rattle.rows.proofs.Ranging.{range_told}
 use Rattle.rows.proofs.ranges.range_at.Goals as goal
 
-pub overflow-add-node : goal.overflow-add-node
-overflow-add-node c =
+pub overflow_add-node : goal.overflow_add-node
+overflow_add-node c =
     let os = used c.args.offsets.now in
     let there : c.args.node.now.place + c.args.row + 1 < length os =
     subst (λ k. RangeThere os k c.args.node.now.place c.args.row) c.in-Text.is c.requires in
     let l = length-take c.args.offsets.now.mark c.args.offsets.now.lent.now in search rules
 
-pub overflow-add-node-in-List : goal.overflow-add-node-in-List
-overflow-add-node-in-List c =
+pub overflow_add-node-in-List : goal.overflow_add-node-in-List
+overflow_add-node-in-List c =
     let os = used c.args.offsets.now in
     let there : c.args.node.now.place + c.args.row + 1 < length os =
     subst (λ k. RangeThere os k c.args.node.now.place c.args.row) c.in-List.is c.requires in
     let l = length-take c.args.offsets.now.mark c.args.offsets.now.lent.now in search rules
 
-pub overflow-add-node-in-Map : goal.overflow-add-node-in-Map
-overflow-add-node-in-Map c =
+pub overflow_add-node-in-Map : goal.overflow_add-node-in-Map
+overflow_add-node-in-Map c =
     let os = used c.args.offsets.now in
     let there : c.args.node.now.place + c.args.row + 1 < length os =
     subst (λ k. RangeThere os k c.args.node.now.place c.args.row) c.in-Map.is c.requires in

@@ -6,8 +6,8 @@ use Rattle.pools.specs.Store.{Lies}
 use Rattle.rows.proofs.Ranging.{text_told}
 use Rattle.rows.proofs.ranges.text_at.Goals as goal
 
-pub overflow-add-node : goal.overflow-add-node
-overflow-add-node c = let l = length-take c.args.offsets.now.mark c.args.offsets.now.lent.now in let h = c.requires.there in search rules
+pub overflow_add-node : goal.overflow_add-node
+overflow_add-node c = let l = length-take c.args.offsets.now.mark c.args.offsets.now.lent.now in let h = c.requires.there in search rules
 
 pub returns : goal.returns
 returns c =

@@ -2,8 +2,8 @@ use Rattle.std.proofs.Common.{◌/◌, ◌%◌, ◌^◌, eqb, ap, ◌∙◌, len
 use Rattle.pools.proofs.Reading.{bit_read}
 use Rattle.rows.proofs.values.bit_at.Goals as goal
 
-pub overflow-add-place : goal.overflow-add-place
-overflow-add-place c = let l = length-take c.args.bytes.now.mark c.args.bytes.now.lent.now in search rules
+pub overflow_add-place : goal.overflow_add-place
+overflow_add-place c = let l = length-take c.args.bytes.now.mark c.args.bytes.now.lent.now in search rules
 
 pub returns : goal.returns
 returns c =

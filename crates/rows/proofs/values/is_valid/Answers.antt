@@ -6,5 +6,5 @@ use Rattle.rows.proofs.values.is_valid.Goals as goal
 
 pub returns-in-Some : goal.returns-in-Some
 returns-in-Some c =
-    let is = c.bit-at.ensures.is ∙ sym (ap (λ m. mask_bit (used c.args.bytes.now) m c.args.row) c.in-Some.is) in
+    let is = c.bit_at.ensures.is ∙ sym (ap (λ m. mask_bit (used c.args.bytes.now) m c.args.row) c.in-Some.is) in
     record { is = is; told = λ rows bits spare lie h. is ∙ valid_read (used c.args.bytes.now) c.args.mask rows bits spare lie c.args.row h }

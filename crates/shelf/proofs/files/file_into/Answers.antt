@@ -26,26 +26,26 @@ below-requires-2 c = (∥∥₁_elim c.requires (ready_prop c.args.pools.now) (�
 pub examine-requires : goal.examine-requires
 examine-requires c = within_bytes c.args.pools.now c.args.slip _ _ c.below.ensures c.below-2.ensures c.requires
 
-pub returns-in-err-accepted : goal.returns-in-err-accepted
-returns-in-err-accepted c =
-    let e = err_from_is_err_and c.from-residual.result c.from-residual.ensures.1 in
+pub returns-in_err-accepted : goal.returns-in_err-accepted
+returns-in_err-accepted c =
+    let e = err_from_is_err_and c.from_residual.result c.from_residual.ensures.1 in
     let p = c.args.pools.now in
     let slip = c.args.slip in
     let parcel = c.args.parcel.now in
     rw (e.1, e.2)
     record {
       stands = λ calls s.
-          denied_stands (filing parcel) (said c.in-err-accepted.field-0.0)
-          (sym (c.in-err-accepted.ensures.answers (lengths p slip) (shelf_of (ledger p slip calls)) (to_examine p slip _ _ _ _ c.below.ensures c.below-2.ensures c.lengths-of-long.ensures c.marks-of-marks.ensures s)))
+          denied_stands (filing parcel) (said c.in_err-accepted.field-0.0)
+          (sym (c.in_err-accepted.ensures.answers (lengths p slip) (shelf_of (ledger p slip calls)) (to_examine p slip _ _ _ _ c.below.ensures c.below-2.ensures c.lengths_of-long.ensures c.marks_of-marks.ensures s)))
           s;
       answers = λ calls s.
           ap (λ o. unless_denied o (added (length (shelf_of (ledger p slip calls)).columns)))
-          (c.in-err-accepted.ensures.answers (lengths p slip) (shelf_of (ledger p slip calls)) (to_examine p slip _ _ _ _ c.below.ensures c.below-2.ensures c.lengths-of-long.ensures c.marks-of-marks.ensures s));
+          (c.in_err-accepted.ensures.answers (lengths p slip) (shelf_of (ledger p slip calls)) (to_examine p slip _ _ _ _ c.below.ensures c.below-2.ensures c.lengths_of-long.ensures c.marks_of-marks.ensures s));
       denied = refl;
     }
 
-pub overflow-cast-column : goal.overflow-cast-column
-overflow-cast-column c =
+pub overflow_cast-column : goal.overflow_cast-column
+overflow_cast-column c =
     let r = ∥∥₁_elim c.requires (ready_prop c.args.pools.now) (λ r. r.1.ready) in
     let h = r.columns.capped in
     omega arith
@@ -55,17 +55,17 @@ store-requires c =
     let p = c.args.pools.now in
     let slip = c.args.slip in
     let parcel = c.args.parcel.now in
-    let x = c.in-ok-accepted.ensures.drafted in
+    let x = c.in_ok-accepted.ensures.drafted in
     simp sub-zero
     record {
       ready = ∥∥₁_elim c.requires (ready_prop p) (λ r. r.1.ready);
       drafted = x.1.drafted;
-      few = omega (arith, length-take c.in-ok-accepted.accepted.nodes c.examine.new.drafts);
+      few = omega (arith, length-take c.in_ok-accepted.accepted.nodes c.examine.new.drafts);
       accepted = ∥∥₁_map c.requires (λ r. (
         shelf_of (ledger p slip r.0),
         slip,
         to_store p slip _ _ parcel _ c.below.ensures c.below-2.ensures x.1.outlined
-            (c.in-ok-accepted.ensures.answers (lengths p slip) (shelf_of (ledger p slip r.0)) (to_examine p slip _ _ _ _ c.below.ensures c.below-2.ensures c.lengths-of-long.ensures c.marks-of-marks.ensures r.1))
+            (c.in_ok-accepted.ensures.answers (lengths p slip) (shelf_of (ledger p slip r.0)) (to_examine p slip _ _ _ _ c.below.ensures c.below-2.ensures c.lengths_of-long.ensures c.marks_of-marks.ensures r.1))
             r.1,
       ));
     }
@@ -75,19 +75,19 @@ returns c =
     let p = c.args.pools.now in
     let slip = c.args.slip in
     let parcel = c.args.parcel.now in
-    let x = c.in-ok-accepted.ensures.drafted in
+    let x = c.in_ok-accepted.ensures.drafted in
     let shown = simp sub-zero at c.store.ensures.shown in
     record {
       stands = λ calls s.
-          let free = c.in-ok-accepted.ensures.answers (lengths p slip) (shelf_of (ledger p slip calls)) (to_examine p slip _ _ _ _ c.below.ensures c.below-2.ensures c.lengths-of-long.ensures c.marks-of-marks.ensures s) in
+          let free = c.in_ok-accepted.ensures.answers (lengths p slip) (shelf_of (ledger p slip calls)) (to_examine p slip _ _ _ _ c.below.ensures c.below-2.ensures c.lengths_of-long.ensures c.marks_of-marks.ensures s) in
           accepted_stands (filing parcel) (sym free) (same_lengths c.store.ensures.kept)
-          (All-from_get_or (λ b. b < 256) parcel 0 (λ i h. of_byte (c.type-inv.parcel i)))
+          (All-from_get_or (λ b. b < 256) parcel 0 (λ i h. of_byte (c.type_inv.parcel i)))
           (ready_after c.store.ensures.kept)
           (shown (shelf_of (ledger p slip calls)) slip (to_store p slip _ _ parcel _ c.below.ensures c.below-2.ensures x.1.outlined free s))
           s;
       answers = λ calls s.
           ap added (sym (length-take-le p.columns.mark _ s.ready.columns.fits) ∙ s.shows.columns.count)
           ∙ ap (λ o. unless_denied o (added (length (shelf_of (ledger p slip calls)).columns)))
-          (c.in-ok-accepted.ensures.answers (lengths p slip) (shelf_of (ledger p slip calls)) (to_examine p slip _ _ _ _ c.below.ensures c.below-2.ensures c.lengths-of-long.ensures c.marks-of-marks.ensures s));
+          (c.in_ok-accepted.ensures.answers (lengths p slip) (shelf_of (ledger p slip calls)) (to_examine p slip _ _ _ _ c.below.ensures c.below-2.ensures c.lengths_of-long.ensures c.marks_of-marks.ensures s));
       denied = tt;
     }

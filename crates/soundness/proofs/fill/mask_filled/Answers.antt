@@ -8,6 +8,6 @@ pub returns-in-Some : goal.returns-in-Some
 returns-in-Some c =
     rw c.in-Some.is
     record {
-      exact = λ e. eqb-true c.in-Some.part.len c.bit-bytes.result e ∙ c.bit-bytes.ensures.is;
-      is = ap (λ (n : ℕ). eqb c.in-Some.part.len n) c.bit-bytes.ensures.is ∙ ap (λ (n : ℕ). eqb n (bytes_for c.args.rows)) (sym (length_within c.args.parcel.now c.in-Some.part (rw c.in-Some.is at c.requires).0));
+      exact = λ e. eqb-true c.in-Some.part.len c.bit_bytes.result e ∙ c.bit_bytes.ensures.is;
+      is = ap (λ (n : ℕ). eqb c.in-Some.part.len n) c.bit_bytes.ensures.is ∙ ap (λ (n : ℕ). eqb n (bytes_for c.args.rows)) (sym (length_within c.args.parcel.now c.in-Some.part (rw c.in-Some.is at c.requires).0));
     }

@@ -7,10 +7,10 @@ use Rattle.soundness.proofs.kinds.kind_sound.Goals as goal
 
 pub returns-in-Text : goal.returns-in-Text
 returns-in-Text c = λ more u.
-    c.offsets-within.ensures
-    ∙ sym (text_sound c.args.parcel.now c.args.d c.requires.0 (buffers_in c.args.bytes.now c.args.buffers.now ++ more) (bytes_of c.offset-width.result) (ap layout c.in-Text.is) (ap offset_width c.in-Text.is ∙ sym c.offset-width.ensures))
+    c.offsets_within.ensures
+    ∙ sym (text_sound c.args.parcel.now c.args.d c.requires.0 (buffers_in c.args.bytes.now c.args.buffers.now ++ more) (bytes_of c.offset_width.result) (ap layout c.in-Text.is) (ap offset_width c.in-Text.is ∙ sym c.offset_width.ensures))
 
 pub returns-in-View : goal.returns-in-View
 returns-in-View c = λ more u.
-    c.views-within.ensures
+    c.views_within.ensures
     ∙ sym (views_sound c.args.parcel.now c.args.bytes.now c.args.buffers.now c.args.d c.requires.0 more (ap layout c.in-View.is) u)

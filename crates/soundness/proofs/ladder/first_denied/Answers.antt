@@ -31,7 +31,7 @@ returns-then-not-sound c =
     let d = get_or D i blank in
     let bs : List (List ℕ) = buffers_in c.args.bytes.now c.args.buffers.now ++ c.loop-i.invariant.more in
     let k = All-get_or (Drafted c.args.parcel.now) D i blank c.loop-i-test.true c.requires.0 in
-    let e = c.in-default.ensures (length bs) in
+    let e = c.in_default.ensures (length bs) in
     let u = unlifted_none (unshelved_in (length c.args.buffers.now) (data_of c.args.parcel.now bs d)) e in
     rung_unsound c.args.parcel.now (length c.args.buffers.now) (buffers_in c.args.bytes.now c.args.buffers.now) D i c.loop-i.invariant d k (drop_more D i blank c.loop-i-test.true) e _ (c.if-not-sound.ensures c.loop-i.invariant.more u) refl
 
@@ -42,7 +42,7 @@ loop-i-preserved c =
     let d = get_or D i blank in
     let bs : List (List ℕ) = buffers_in c.args.bytes.now c.args.buffers.now ++ c.loop-i.invariant.more in
     let k = All-get_or (Drafted c.args.parcel.now) D i blank c.loop-i-test.true c.requires.0 in
-    let e = c.in-default.ensures (length bs) in
+    let e = c.in_default.ensures (length bs) in
     let u = unlifted_none (unshelved_in (length c.args.buffers.now) (data_of c.args.parcel.now bs d)) e in
     rung_more c.args.parcel.now (length c.args.buffers.now) (buffers_in c.args.bytes.now c.args.buffers.now) D i c.loop-i.invariant d k (drop_more D i blank c.loop-i-test.true) e _ (c.if-not-sound.ensures c.loop-i.invariant.more u) refl
 

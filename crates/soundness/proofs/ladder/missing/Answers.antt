@@ -25,7 +25,7 @@ after-at-requires c =
 
 pub loop-k-preserved : goal.loop-k-preserved
 loop-k-preserved c =
-    left_more c.args.parcel.now c.args.before c.args.lent.start c.args.lent.len c.loop-k.-k c.loop-k.at c.loop-k-test.true c.loop-k.invariant c.after-at.result c.after-at.ensures c.in-default.ensures
+    left_more c.args.parcel.now c.args.before c.args.lent.start c.args.lent.len c.loop-k.-k c.loop-k.at c.loop-k-test.true c.loop-k.invariant c.after-at.result c.after-at.ensures c.in_default.ensures
 
 pub returns : goal.returns
 returns c = left_none c.args.parcel.now c.args.before c.args.lent.start c.args.lent.len c.loop-k.-k c.loop-k.at c.loop-k-test.false c.loop-k.invariant

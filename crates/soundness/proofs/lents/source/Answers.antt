@@ -9,13 +9,13 @@ returns-then-number-buffers c =
     let e = c.in-Named.ensures in
     source_none c.args.parcel.now c.args.bytes.now c.args.buffers.now c.args.at c.in-Named.number e.0 e.1 c.if-number-buffers.true
 
-pub overflow-add-end-2 : goal.overflow-add-end-2
-overflow-add-end-2 c =
+pub overflow_add-end-2 : goal.overflow_add-end-2
+overflow_add-end-2 c =
     let h = All-get_or (Within c.args.bytes.now) c.args.buffers.now c.in-Named.number no_part c.if-number-buffers.false c.requires.1 in
     omega (arith, h)
 
-pub slice-bounds-result-end-2 : goal.slice-bounds-result-end-2
-slice-bounds-result-end-2 c =
+pub slice_bounds-result-end-2 : goal.slice_bounds-result-end-2
+slice_bounds-result-end-2 c =
     let h = All-get_or (Within c.args.bytes.now) c.args.buffers.now c.in-Named.number no_part c.if-number-buffers.false c.requires.1 in
     omega (arith, h)
 

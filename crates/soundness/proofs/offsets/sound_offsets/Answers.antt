@@ -12,5 +12,5 @@ loop-i-preserved c = rising_more (bytes_of c.args.width) (c.args.rows + 1) c.arg
 
 pub returns : goal.returns
 returns c =
-    c.within-bound.ensures
+    c.within_bound.ensures
     ∙ sym (rising_all (bytes_of c.args.width) (c.args.rows + 1) c.args.body.now c.loop-i.i c.loop-i.low c.args.bound c.loop-i-test.false c.loop-i.invariant)

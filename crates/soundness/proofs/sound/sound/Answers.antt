@@ -8,29 +8,29 @@ use Rattle.parcels.specs.Drafts.{kind_in, head_in, node_in}
 use Rattle.soundness.specs.Ladder.{data_of, kind_sound_in}
 use Rattle.soundness.proofs.sound.sound.Goals as goal
 
-pub returns-then-role-sound : goal.returns-then-role-sound
-returns-then-role-sound c = λ more u.
+pub returns-then-role_sound : goal.returns-then-role_sound
+returns-then-role_sound c = λ more u.
     let parcel = c.args.parcel.now in
     let d = c.args.d in
     let bs : List (List ℕ) = buffers_in c.args.bytes.now c.args.buffers.now ++ more in
     let ds : List Data = data_of parcel bs d in
     let F : Bool = fills (kind_in parcel d) (head_in parcel d) (sent_of parcel d.parts ds) in
     let K : Bool = kind_sound_in parcel bs d in
-    c.kind-sound.ensures more u
+    c.kind_sound.ensures more u
     ∙ ap (λ (b : Bool). b && true && K) (c.if-not-filled.ensures.is ds)
-    ∙ ap (λ (b : Bool). F && b && K) (c.if-role-sound.ensures ds)
+    ∙ ap (λ (b : Bool). F && b && K) (c.if-role_sound.ensures ds)
 
-pub returns-else-role-sound : goal.returns-else-role-sound
-returns-else-role-sound c = λ more u.
+pub returns-else-role_sound : goal.returns-else-role_sound
+returns-else-role_sound c = λ more u.
     let parcel = c.args.parcel.now in
     let d = c.args.d in
     let bs : List (List ℕ) = buffers_in c.args.bytes.now c.args.buffers.now ++ more in
     let ds : List Data = data_of parcel bs d in
     let F : Bool = fills (kind_in parcel d) (head_in parcel d) (sent_of parcel d.parts ds) in
     let K : Bool = kind_sound_in parcel bs d in
-    c.if-role-sound.false
+    c.if-role_sound.false
     ∙ ap (λ (b : Bool). b && false && K) (c.if-not-filled.ensures.is ds)
-    ∙ ap (λ (b : Bool). F && b && K) (c.if-role-sound.ensures ds)
+    ∙ ap (λ (b : Bool). F && b && K) (c.if-role_sound.ensures ds)
 
 pub returns-then-not-filled : goal.returns-then-not-filled
 returns-then-not-filled c = λ more u.

@@ -8,7 +8,7 @@ use Rattle.reading.proofs.pen.Pen.+low_bytes.Goals as goal
 
 pub returns-then-count-gt0 : goal.returns-then-count-gt0
 returns-then-count-gt0 t c =
-    c.low-bytes.ensures
+    c.low_bytes.ensures
     ∙ ap (λ v. wrote c.byte.new.self (flat_map hex_byte (le_bytes (c.args.count - 1) v))) c.higher.ensures
     ∙ piece c.args.self.now c.byte.new.self (hex_byte (c.args.value % 256)) (flat_map hex_byte (le_bytes (c.args.count - 1) (c.args.value / 256))) (c.byte.ensures ∙ ap (λ b. wrote c.args.self.now (hex_byte b)) c.lowest.ensures)
     ∙ ap (wrote c.args.self.now) (sym (bytes_more c.args.count c.args.value c.if-count-gt0.true))

@@ -3,6 +3,6 @@ use mathlib.Core.Logic.{∥∥₁_map}
 use Rattle.columns.specs.Ledger.{adds, filing}
 use Rattle.shelf.proofs.owner.Shelf.file.Goals as goal
 
-pub invariant-of-self : goal.invariant-of-self
-invariant-of-self c =
-    (∥∥₁_map c.args.self.now.reached (λ r. (r.0 ++ adds (filing c.args.parcel.now) ∷ [], c.file-into.ensures.stands r.0 r.1)), tt)
+pub invariant_of-self : goal.invariant_of-self
+invariant_of-self c =
+    (∥∥₁_map c.args.self.now.reached (λ r. (r.0 ++ adds (filing c.args.parcel.now) ∷ [], c.file_into.ensures.stands r.0 r.1)), tt)

@@ -11,5 +11,5 @@ returns c =
       slip_lent = refl;
     }
 
-pub invariant-of-result : goal.invariant-of-result
-invariant-of-result c = (∣ ([], subst (λ p. Stands [] p (length c.args.slip.now)) (sym c.emptied.ensures) (fresh_stands c.args.pools (length c.args.slip.now))) ∣₁, tt)
+pub invariant_of-result : goal.invariant_of-result
+invariant_of-result c = (∣ ([], subst (λ p. Stands [] p (length c.args.slip.now)) (sym c.emptied.ensures) (fresh_stands c.args.pools (length c.args.slip.now))) ∣₁, tt)
