@@ -34,8 +34,11 @@ fn sound_view(
     places: &Places,
     view: &[u8],
 ) -> bool
-    requires view_len { (length view.now ≡ 16) × ((readable parcel.now lent.start lent.len ≡ true) × (lent.len < 65536)) }
-    requires indexed { (Indexed parcel.now lent places.now) × (All (Within bytes.now) buffers.now) }
+    requires size { length view.now ≡ 16 }
+    requires listed { readable parcel.now lent.start lent.len ≡ true }
+    requires few { lent.len < 65536 }
+    requires indexed { Indexed parcel.now lent places.now }
+    requires inside { All (Within bytes.now) buffers.now }
     ensures { result ≡ view_fine (sources parcel.now bytes.now buffers.now lent) lent.len (view_in view.now) }
 {
     let len = four(view);
@@ -66,8 +69,11 @@ pub(crate) fn sound_views(
     views: &[u8],
     rows: usize,
 ) -> bool
-    requires views_len { (length views.now ≡ 16 * rows) × ((readable parcel.now lent.start lent.len ≡ true) × (lent.len < 65536)) }
-    requires all { (All (Within bytes.now) buffers.now) × (rows ≤ 1048576) }
+    requires size { length views.now ≡ 16 * rows }
+    requires listed { readable parcel.now lent.start lent.len ≡ true }
+    requires few { lent.len < 65536 }
+    requires inside { All (Within bytes.now) buffers.now }
+    requires low { rows ≤ 1048576 }
     ensures { result ≡ all_of (view_fine (sources parcel.now bytes.now buffers.now lent) lent.len) (views_in rows views.now) }
 {
     let places = places_of(parcel, lent);

@@ -21,5 +21,5 @@ loop-k-preserved c =
 
 pub returns : goal.returns
 returns c =
-    let s = bringing_all _ _ c.args.lent.len _ _ _ _ c.loop-k.-k _ (omega (arith, c.loop-k-test.false)) c.loop-k.auto.-k-end c.loop-k.invariant in
+    let s = bringing_all _ _ c.args.lent.len _ _ _ _ c.loop-k._k _ (omega (arith, c.loop-k-test.false)) c.loop-k.auto._k-end c.loop-k.invariant in
     record { bytes = s.bytes; buffers = s.buffers }

@@ -20,5 +20,5 @@ loop-k-preserved c =
 
 pub returns : goal.returns
 returns c =
-    let s = numbering_all _ _ _ c.args.lent.len _ _ c.loop-k.-k _ _ (omega (arith, c.loop-k-test.false)) c.loop-k.auto.-k-end c.loop-k.invariant in
+    let s = numbering_all _ _ _ c.args.lent.len _ _ c.loop-k._k _ _ (omega (arith, c.loop-k-test.false)) c.loop-k.auto._k-end c.loop-k.invariant in
     record { added = s.lists; lies = refl }

@@ -5,11 +5,11 @@ use Rattle.filing.proofs.spans.span_at.Goals as goal
 
 -- what is left, with the next child's size
 next : (c : goal.After-size_at-span)
-    → c.size_at-span.result + spanned (c.args.children - (c.loop-k.-k + 1)) (drop (c.args.at + c.loop-k.span + c.size_at-span.result) c.args.spans.now)
-    ≡ spanned (c.args.children - c.loop-k.-k) (drop (c.args.at + c.loop-k.span) c.args.spans.now)
+    → c.size_at-span.result + spanned (c.args.children - (c.loop-k._k + 1)) (drop (c.args.at + c.loop-k.span + c.size_at-span.result) c.args.spans.now)
+    ≡ spanned (c.args.children - c.loop-k._k) (drop (c.args.at + c.loop-k.span) c.args.spans.now)
 next c =
-    ap (λ (v : ℕ). v + spanned (c.args.children - (c.loop-k.-k + 1)) (drop (c.args.at + c.loop-k.span + v) c.args.spans.now)) c.size_at-span.ensures
-    ∙ spanned_more c.args.spans.now (c.args.at + c.loop-k.span) c.loop-k.-k c.args.children c.loop-k-test.true
+    ap (λ (v : ℕ). v + spanned (c.args.children - (c.loop-k._k + 1)) (drop (c.args.at + c.loop-k.span + v) c.args.spans.now)) c.size_at-span.ensures
+    ∙ spanned_more c.args.spans.now (c.args.at + c.loop-k.span) c.loop-k._k c.args.children c.loop-k-test.true
 
 pub overflow_add-span : goal.overflow_add-span
 overflow_add-span c = omega (arith, next c, c.loop-k.invariant, c.requires.few)
@@ -17,7 +17,7 @@ overflow_add-span c = omega (arith, next c, c.loop-k.invariant, c.requires.few)
 pub loop-k-preserved : goal.loop-k-preserved
 loop-k-preserved c =
     let e : c.args.at + c.loop-k.span + c.size_at-span.result ≡ c.args.at + (c.loop-k.span + c.size_at-span.result) = omega arith in
-    let n = ap (λ (i : ℕ). c.size_at-span.result + spanned (c.args.children - (c.loop-k.-k + 1)) (drop i c.args.spans.now)) (sym e) ∙ next c in
+    let n = ap (λ (i : ℕ). c.size_at-span.result + spanned (c.args.children - (c.loop-k._k + 1)) (drop i c.args.spans.now)) (sym e) ∙ next c in
     omega (arith, n, c.loop-k.invariant)
 
 pub returns : goal.returns
@@ -25,5 +25,5 @@ returns c =
     omega (
       arith,
       c.loop-k.invariant,
-      spanned_none c.args.children c.loop-k.-k (drop (c.args.at + c.loop-k.span) c.args.spans.now) (omega (arith, c.loop-k-test.false)),
+      spanned_none c.args.children c.loop-k._k (drop (c.args.at + c.loop-k.span) c.args.spans.now) (omega (arith, c.loop-k-test.false)),
     )

@@ -10,7 +10,7 @@ use Rattle.soundness.proofs.views.sound_view.Goals as goal
 pub source-text-requires : goal.source-text-requires
 source-text-requires c =
     let parcel = c.args.parcel.now in
-    (subst (λ (n : ℕ). n + data_size parcel n ≤ length parcel) (sym c.find.ensures) (readable_at parcel c.args.lent.start c.args.lent.len c.four-position.result c.requires.0.1.0 c.if-position-lent.false), c.requires.1.1)
+    (subst (λ (n : ℕ). n + data_size parcel n ≤ length parcel) (sym c.find.ensures) (readable_at parcel c.args.lent.start c.args.lent.len c.four-position.result c.requires.listed c.if-position-lent.false), c.requires.inside)
 
 pub returns : goal.returns
 returns c =
