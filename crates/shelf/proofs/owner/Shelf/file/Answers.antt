@@ -5,4 +5,4 @@ use Rattle.shelf.proofs.owner.Shelf.file.Goals as goal
 
 pub invariant_of-self : goal.invariant_of-self
 invariant_of-self c =
-    (∥∥₁_map c.args.self.now.reached (λ r. (r.0 ++ adds (filing c.args.parcel.now) ∷ [], c.file_into.ensures.stands r.0 r.1)), tt)
+    record { reached = ∥∥₁_map c.args.self.now.reached (λ r. (r.0 ++ adds (filing c.args.parcel.now) ∷ [], c.file_into.ensures.stands r.0 r.1)) }

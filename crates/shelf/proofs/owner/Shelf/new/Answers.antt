@@ -12,4 +12,4 @@ returns c =
     }
 
 pub invariant_of-result : goal.invariant_of-result
-invariant_of-result c = (∣ ([], subst (λ p. Stands [] p (length c.args.slip.now)) (sym c.emptied.ensures) (fresh_stands c.args.pools (length c.args.slip.now))) ∣₁, tt)
+invariant_of-result c = record { reached = ∣ ([], subst (λ p. Stands [] p (length c.args.slip.now)) (sym c.emptied.ensures) (fresh_stands c.args.pools (length c.args.slip.now))) ∣₁ }
