@@ -1,9 +1,9 @@
-use Rattle.std.proofs.Common.{◌≡◌, ℕ, zero, suc, ◌+◌, ◌-◌, ◌*◌, ◌<◌, ◌≤◌, Bool, true, false, cond, ◌⊎◌, List, [], ◌∷◌, ◌++◌, map, length, get_or, drop, sym, refl, ap, ◌∙◌, subst, inl, inr, add-zero, add_assoc, arith}
-use Rattle.std.proofs.lemmas.List.{drop-drop, drop_all, length-take-le, length-drop}
+use Rattle.std.proofs.Common.{◌≡◌, ℕ, suc, ◌+◌, ◌-◌, ◌*◌, ◌<◌, ◌≤◌, Bool, true, false, cond, List, [], ◌∷◌, map, length, drop, sym, refl, ap, ◌∙◌, subst, inl, inr, add-zero, add_assoc, arith}
+use Rattle.std.proofs.lemmas.List.{drop_all, length-take-le, length-drop}
 use Rattle.std.proofs.lemmas.Bool.{cases_Bool}
 use Rattle.columns.specs.Sent.{is_named, buffer_length}
 use Rattle.columns.specs.Pools.{plus, sum_of}
-use Rattle.parcels.specs.Lent.{data_size, place_of, readable, number_at, bytes_at, brought_from}
+use Rattle.parcels.specs.Lent.{data_size, place_of, readable, bytes_at, brought_from}
 use Rattle.parcels.proofs.Lents.{place_more, readable_at}
 use Rattle.std.specs.List.{AllByRecursion as All}
 use Rattle.std.proofs.ByRecursion.{All-weaker}

@@ -1,12 +1,10 @@
-use Rattle.std.proofs.Common.{◌≡◌, ℕ, ◌+◌, List, [], ◌∷◌, ◌++◌, map, length, drop, Some, None, sym, refl, ap, ◌∙◌, subst, arith}
+use Rattle.std.proofs.Common.{◌≡◌, ℕ, List, [], ◌∷◌, ◌++◌, length, drop, Some, None, sym, refl, ap, ◌∙◌, arith}
 use mathlib.Core.Option as math
 use Rattle.std.specs.List.{AllByRecursion as All}
 use Rattle.std.proofs.lemmas.List.{length-map}
 use Rattle.columns.specs.Checks.{Denial, denial, Check, denied_or, first_denial}
 use Rattle.columns.specs.Ledger.{Shelf, file_denial}
-use Rattle.columns.specs.Reading.{Outcome, reached}
-use Rattle.columns.specs.Parcel.{Found, parcel_read}
-use Rattle.columns.specs.Parcel as rules
+use Rattle.columns.specs.Parcel.{parcel_read}
 use Rattle.columns.specs.Pools.{plus, one_column, filed_needs, full_pool}
 use Rattle.formats.specs.Spelled.{lifted}
 use Rattle.pools.specs.declared.records.Part.{Part}
@@ -15,7 +13,7 @@ use Rattle.parcels.specs.declared.draft.Draft.{Draft}
 use Rattle.parcels.specs.Drafts.{Drafted, Outlined, checks_of}
 use Rattle.admission.specs.declared.entries.Entries.{Entries}
 use Rattle.admission.specs.Needs.{listed, drafts_need}
-use Rattle.admission.specs.Examine.{Stands, Examined}
+use Rattle.admission.specs.Examine.{Stands}
 use Rattle.admission.proofs.Rooms.{full_agrees}
 use Rattle.soundness.proofs.Rungs.{unlifted_some, unlifted_none}
 use Rattle.admission.proofs.Filing.{needs_are}

@@ -1,13 +1,13 @@
 -- What drafts need is what the column that they outline needs.
-use Rattle.std.proofs.Common.{◌≡◌, ℕ, zero, suc, ◌+◌, ◌-◌, ◌*◌, ◌/◌, ◌<◌, ◌≤◌, Bool, true, false, cond, List, [], ◌∷◌, ◌++◌, map, length, get_or, drop, Some, None, Option, sym, refl, ap, ◌∙◌, subst, arith}
+use Rattle.std.proofs.Common.{◌≡◌, ℕ, zero, suc, ◌+◌, ◌-◌, ◌<◌, List, [], ◌∷◌, ◌++◌, map, length, get_or, drop, Some, None, Option, sym, refl, ap, ◌∙◌, arith}
 use mathlib.Core.Option as math
 use Rattle.std.specs.List.{AllByRecursion as All}
 use Rattle.std.proofs.lemmas.List.{append_assoc, append-nil, length-append, length-map, map-append, get_or-map, drop_at}
 use Rattle.columns.specs.Format.{offset_bytes}
-use Rattle.columns.specs.Kinds.{Kind, primitive, boolean, strings, views, lists, maps, structs, run_ended, fixed_lists}
-use Rattle.columns.specs.Column.{Node, Column, Columns, column, end, ◌&◌, node, kind, bytes_for}
+use Rattle.columns.specs.Kinds.{Kind}
+use Rattle.columns.specs.Column.{Node, Column, Columns, column, end, ◌&◌, bytes_for}
 use Rattle.columns.specs.Says.{span}
-use Rattle.columns.specs.Pools.{Entries, plus, sum_of, node_needs, column_needs, columns_need, format_bytes, formats_bytes, filed_needs, made_needs, one_column, of_width, mask_bytes}
+use Rattle.columns.specs.Pools.{Entries, plus, sum_of, node_needs, column_needs, columns_need, format_bytes, formats_bytes, filed_needs, one_column, of_width, mask_bytes}
 use Rattle.columns.specs.Sent.{Data, number_of}
 use Rattle.columns.specs.Contents.{values_in, views_in, bits_in, mask_in, contents, node_from}
 use Rattle.columns.specs.Heads as rules_heads
@@ -22,8 +22,7 @@ use Rattle.formats.specs.Kinds.{layout}
 use Rattle.parcels.specs.declared.draft.Draft.{Draft}
 use Rattle.parcels.specs.Reads.{mask_of, within, sent_of}
 use Rattle.parcels.specs.Lent.{brought_from}
-use Rattle.parcels.specs.Drafts.{Drafted, kind_in, head_in, node_in, lent_of, held_after, nodes_of, held_of, preorder, preorders}
-use Rattle.parcels.proofs.Along.{length_span}
+use Rattle.parcels.specs.Drafts.{Drafted, head_in, node_in, lent_of, held_after, nodes_of, held_of, preorder, preorders}
 use Rattle.admission.specs.Needs.{mask_need, new_count, new_bytes, kind_entries, draft_entries, drafts_need}
 use Rattle.soundness.proofs.Fills.{length_within}
 use Rattle.soundness.proofs.Falls.{length_values, length_bits, get_or_span}

@@ -1,8 +1,7 @@
-use Rattle.std.proofs.Common.{◌≡◌, ℕ, suc, ◌+◌, ◌-◌, ◌<◌, ◌≤◌, Bool, true, false, cond, ◌&&◌, leb, List, [], ◌∷◌, length, get_or, drop, sym, refl, ap, ◌∙◌, arith}
+use Rattle.std.proofs.Common.{◌≡◌, ℕ, ◌+◌, ◌-◌, ◌<◌, ◌≤◌, Bool, true, false, cond, ◌&&◌, leb, List, [], ◌∷◌, get_or, drop, sym, refl, ap, ◌∙◌, arith}
 use mathlib.Core.Option as math
 use Rattle.std.proofs.lemmas.List.{at_drop_more, at_drop_all}
 use Rattle.columns.specs.Checks.{first_failing}
-use Rattle.columns.specs.Says.{span}
 use Rattle.columns.specs.Pools.{Entries, of_pool, pools, fits, full_pool}
 use Rattle.soundness.proofs.Falls.{get_or_span}
 

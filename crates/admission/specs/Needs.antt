@@ -1,5 +1,5 @@
 -- What drafts need of the pools.
-use Rattle.std.specs.Prelude.{◌≡◌, ℕ, ◌+◌, cond, List, [], ◌∷◌, map, length, drop, Some, None, Option}
+use Rattle.std.specs.Prelude.{ℕ, ◌+◌, cond, List, [], ◌∷◌, map, length, drop, Some, None, Option}
 use Rattle.columns.specs.Column.{bytes_for}
 use Rattle.columns.specs.Sent.{is_named, buffer_length}
 use Rattle.columns.specs.Pools.{plus, sum_of}

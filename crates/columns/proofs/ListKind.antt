@@ -6,10 +6,10 @@ use Rattle.std.specs.List.{AllByRecursion as All}
 use Rattle.std.proofs.lemmas.List.{get_or-map, get_or-take, get_or-drop, take-append-le, drop-append-le}
 use Rattle.std.proofs.ByRecursion.{All-get_or}
 use Rattle.std.proofs.lemmas.Bool.{cases_lt, lt-ltb, le-ltb, cond-true, cond-false}
-use Rattle.columns.specs.Kinds.{Kind, lists, fixed_lists}
+use Rattle.columns.specs.Kinds.{Kind, fixed_lists}
 use Rattle.columns.specs.Column.{Node, Column, Columns, node, children, first, rows_of, nothing}
 use Rattle.columns.specs.Says.{span, slice}
-use Rattle.columns.specs.Gathering.{Pair, pair, Ranges, ranges, fixed_ranges, row_range, gathered, sizes, totals, totals_from}
+use Rattle.columns.specs.Gathering.{Pair, pair, Ranges, fixed_ranges, row_range, gathered, sizes, totals, totals_from}
 use Rattle.columns.specs.Interleave.{source_ranges}
 use Rattle.columns.specs.Sound.{Offsets, KindSound}
 use Rattle.columns.specs.Chain.{gathered_ranges, followed}

@@ -1,13 +1,13 @@
 -- The plain ledger: which calls are accepted, the columns that its lines make, and where their rows lead.
-use Rattle.std.specs.Prelude.{◌≡◌, ℕ, ◌<◌, Bool, false, cond, ◌&&◌, List, [], ◌∷◌, ◌++◌, map, length, drop, nat_le, nat_lt, slice_index, slice_index_or}
+use Rattle.std.specs.Prelude.{ℕ, Bool, cond, ◌&&◌, List, [], ◌∷◌, ◌++◌, map, length, drop, nat_le, nat_lt, slice_index, slice_index_or}
 use Rattle.std.proofs.Math.Option.{Option, some, none}
-use Rattle.columns.specs.Column.{Column, column, rows_of, at}
+use Rattle.columns.specs.Column.{Column, rows_of, at}
 use Rattle.columns.specs.Says.{says}
 use Rattle.columns.specs.Text.{text}
 use Rattle.columns.specs.Gathering.{Pair, pair}
 use Rattle.columns.specs.Interleave.{interleave}
 use Rattle.columns.specs.Types.{alike}
-use Rattle.columns.specs.Checks.{Denial, denial, Check, unless, first_denial, first_failing, failing_place}
+use Rattle.columns.specs.Checks.{Denial, Check, unless, first_denial, first_failing, failing_place}
 use Rattle.columns.specs.Reading.{Outcome, denied, reached, Place}
 use Rattle.columns.specs.Parcel.{Found, parcel_read}
 use Rattle.columns.specs.Pools.{Entries, plus, fits, full_pool, one_column, made_needs, filed_needs, making_checks}

@@ -1,5 +1,5 @@
 -- What is known of an accepted parcel, and what the pools show once it is stored.
-use Rattle.std.proofs.Common.{◌≡◌, ℕ, ◌+◌, ◌-◌, ◌≤◌, List, [], ◌∷◌, ◌++◌, map, length, drop, sym, refl, ap, ◌∙◌, subst, arith}
+use Rattle.std.proofs.Common.{◌≡◌, ℕ, ◌+◌, ◌≤◌, List, [], ◌∷◌, ◌++◌, map, length, drop, sym, refl, ap, ◌∙◌, subst, arith}
 use mathlib.Core.Option.{none}
 use lib.ListN.{length-map}
 use Rattle.std.specs.List.{AllByRecursion as All}
@@ -36,7 +36,7 @@ use Rattle.parcels.specs.Drafts.{Drafted, preorder, checks_of}
 use Rattle.filing.specs.News.{Filled, brought_by}
 use Rattle.filing.specs.Row.{Row, sizes_of, sizes_each, spans_of}
 use Rattle.filing.specs.Counts.{children_in}
-use Rattle.filing.specs.Filed.{takes, takes_all, nodes_from, brought_all, Fits, Filed}
+use Rattle.filing.specs.Filed.{takes_all, nodes_from, brought_all, Fits, Filed}
 use Rattle.filing.specs.Accepted.{Accepted}
 use Rattle.filing.proofs.Rows.{count_of, spans_are, row_column, preorder_length}
 use Rattle.filing.proofs.Fitting.{fit_less}

@@ -10,7 +10,7 @@ use Rattle.formats.specs.Kinds.{layout}
 use Rattle.columns.specs.Says.{slice}
 use Rattle.columns.specs.Format.{offset_bytes}
 use Rattle.columns.specs.Kinds as rules_format
-use Rattle.columns.specs.Column.{Node, Column, Columns, column, end, ◌&◌, bytes_for, kind}
+use Rattle.columns.specs.Column.{Node, Column, Columns, column, end, ◌&◌, bytes_for}
 use Rattle.columns.specs.Pools.{Entries, of_pool, plus, of_width, node_needs, column_needs, columns_need, format_bytes, formats_bytes, sum_of}
 use Rattle.columns.specs.Contents.{value_at, node_from}
 use Rattle.columns.specs.Contents as rules_contents

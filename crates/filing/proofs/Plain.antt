@@ -1,5 +1,5 @@
 -- What storing needs to know of an accepted parcel, and that it has at most one proof.
-use Rattle.std.proofs.Common.{◌≡◌, ℕ, ◌≤◌, List, [], ◌∷◌, map, length, Some, None, Option}
+use Rattle.std.proofs.Common.{ℕ, ◌≤◌, List, [], ◌∷◌, map, length, Some, None, Option}
 use mathlib.Core.HLevel.{×_prop, Unit-prop}
 use mathlib.Core.Logic.{∥∥₁_elim}
 use native.Mathlib.Nat.{ℕ_set}

@@ -1,9 +1,8 @@
-use Rattle.std.proofs.Common.{◌≡◌, ℕ, ◌-◌, ◌≤◌, Bool, true, false, cond, ◌&&◌, ◌||◌, eqb, ◌⊎◌, List, [], ◌∷◌, length, get_or, take, drop, Some, None, Option, sym, refl, ap, ◌∙◌, inl, inr, arith}
+use Rattle.std.proofs.Common.{◌≡◌, ℕ, ◌-◌, ◌≤◌, Bool, true, false, ◌&&◌, eqb, ◌⊎◌, List, [], ◌∷◌, length, get_or, take, drop, sym, refl, ap, inl, inr, arith}
 use Rattle.std.proofs.lemmas.List.{take_rest}
 use Rattle.std.proofs.lemmas.Bool.{cases_eq, ne_eqb}
 use Rattle.columns.specs.Format.{kind_of, offset_bytes, ends_format, decimal, fixed_size}
-use Rattle.formats.specs.declared.format.Tick.{Tick}
-use Rattle.formats.specs.Spelled.{Meaning, meant, told, spelled, one_char, two_chars, timed_of, tick_of, prim_of, stamp_of, fixed_of, lifted, simple}
+use Rattle.formats.specs.Spelled.{Meaning, told, spelled, one_char, two_chars, timed_of, tick_of, prim_of, stamp_of, fixed_of, lifted, simple}
 use mathlib.Core.Option as math
 
 pub spelled_one : (l : List ℕ) → length l ≡ 1 → one_char (get_or l 0 0) ≡ spelled l

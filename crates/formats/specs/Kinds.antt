@@ -1,5 +1,5 @@
 -- The code's kinds, as the theory's: the layout, and the bytes of an offset.
-use Rattle.std.specs.Prelude.{ℕ, Bool}
+use Rattle.std.specs.Prelude.{ℕ}
 use Rattle.columns.specs.Kinds as rules
 use Rattle.formats.specs.declared.kind.Kind.{Kind}
 use Rattle.formats.specs.declared.kind.Kind.TheVariants.{Primitive, Boolean, Text, View, List, Map, Struct, RunEnds, FixedList}

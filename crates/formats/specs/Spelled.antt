@@ -1,5 +1,5 @@
 -- What a format string says, and the same found from the front, letter by letter.
-use Rattle.std.specs.Prelude.{◌≡◌, ℕ, ◌+◌, ◌-◌, ◌*◌, Bool, true, false, cond, List, [], ◌∷◌, length, drop, Some, None, codes, Option, ◌==◌, nat_le}
+use Rattle.std.specs.Prelude.{ℕ, ◌+◌, ◌-◌, ◌*◌, Bool, true, false, cond, List, [], ◌∷◌, drop, Some, None, codes, Option, ◌==◌, nat_le}
 use Rattle.std.proofs.Math.Option as math
 use Rattle.columns.specs.Kinds.{Kind, primitive, boolean, strings, views, lists, maps, structs, run_ended, fixed_lists, unknown}
 use Rattle.columns.specs.Format.{kind_of, offset_bytes, ends_format, same_bytes, begins, decimal}

@@ -1,6 +1,5 @@
-use Rattle.std.proofs.Common.{◌≡◌, ℕ, zero, suc, List, [], ◌∷◌, length, get_or, replicate, sym, refl, ap, ◌∙◌}
+use Rattle.std.proofs.Common.{◌≡◌, ℕ, zero, suc, [], ◌∷◌, get_or, replicate, refl}
 use Rattle.columns.specs.Heads.{roles, free}
-use Rattle.columns.specs.Parcel as rules
 use Rattle.formats.specs.Spelled.{format_meant}
 use Rattle.parcels.specs.Roles.{head_with}
 use Rattle.formats.specs.declared.format.Format.{Format}

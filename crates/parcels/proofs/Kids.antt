@@ -1,4 +1,4 @@
-use Rattle.std.proofs.Common.{◌≡◌, ℕ, zero, suc, ◌+◌, ◌-◌, ◌*◌, ◌<◌, ◌≤◌, Bool, true, false, cond, ◌&&◌, ltb, List, [], ◌∷◌, ◌++◌, map, length, get_or, take, drop, set, sym, refl, ap, ◌∙◌, subst, arith}
+use Rattle.std.proofs.Common.{◌≡◌, ℕ, ◌+◌, ◌-◌, ◌<◌, ◌≤◌, Bool, true, ◌&&◌, ltb, List, [], ◌∷◌, ◌++◌, map, length, get_or, take, set, sym, refl, ap, ◌∙◌, subst, arith}
 use Rattle.std.specs.List.{between, flat_map, AllByRecursion as All}
 use Rattle.std.proofs.lemmas.List.{map_push, length_push, length-map, take-set, take-take}
 use Rattle.std.proofs.lemmas.List.Edits.{length-between, between_none}
@@ -6,7 +6,7 @@ use Rattle.columns.specs.Checks.{Check, unless, first_failing}
 use Rattle.columns.specs.Checks as checks
 use Rattle.columns.specs.Kinds.{Kind}
 use Rattle.columns.specs.Format.{kind_of}
-use Rattle.columns.specs.Column.{Node, column, rows_of, width}
+use Rattle.columns.specs.Column.{Node}
 use Rattle.columns.specs.Reading.{Outcome, reached, denied, onward, give, each_of}
 use Rattle.columns.specs.Sent.{Data}
 use Rattle.columns.specs.Parcel.{Found, columns_from, found_node, node_read, named_before}
@@ -25,7 +25,7 @@ use Rattle.parcels.specs.declared.draft.Draft.{Draft}
 use Rattle.columns.specs.Says.{span}
 use Rattle.parcels.specs.Drafts.{kind_sound_by, below_more, below_of, checks_in, node_in, preorder, preorders, Traced, FoundAs, FoundInside, Drafted}
 use Rattle.std.proofs.ByRecursion.{All-append}
-use Rattle.parcels.specs.Opens.{kids_read, OpenedAs, OpenedInside}
+use Rattle.parcels.specs.Opens.{OpenedAs, OpenedInside}
 use Rattle.parcels.specs.Reads.{placed, head_of, sent_of, within, Fair}
 use Rattle.parcels.specs.Roles.{role_of, free_role, head_with}
 use Rattle.formats.specs.Spelled.{told, format_meant, Meaning}

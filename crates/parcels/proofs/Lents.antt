@@ -1,13 +1,11 @@
-use Rattle.std.proofs.Common.{◌≡◌, ℕ, zero, suc, ◌+◌, ◌-◌, ◌^◌, ◌<◌, ◌≤◌, Bool, true, false, cond, ◌&&◌, leb, ◌⊎◌, List, [], ◌∷◌, ◌++◌, length, take, drop, sym, refl, ap, ◌∙◌, subst, inl, inr, arith}
+use Rattle.std.proofs.Common.{◌≡◌, ℕ, zero, suc, ◌+◌, ◌^◌, ◌<◌, ◌≤◌, Bool, true, false, cond, leb, List, [], ◌∷◌, ◌++◌, length, take, drop, sym, refl, ap, ◌∙◌, subst, inl, inr, arith}
 use Rattle.std.proofs.lemmas.List.{append_assoc, append-nil, length_push, drop-take, drop-drop}
 use Rattle.std.proofs.lemmas.Bool.{and_parts, and_from, leb-true, leb-false, le-leb, cases_Bool, cases_lt}
 use Rattle.columns.specs.Says.{span}
 use Rattle.columns.specs.Checks.{denial}
-use Rattle.columns.specs.Checks as checks
 use Rattle.columns.specs.Reading.{Outcome, denied, reached, onward, give, each_of, ◌>>=◌}
 use Rattle.columns.specs.Sent.{Data, brought, named, data_buffer, is_named, buffer_length}
 use Rattle.columns.specs.Reading as rules
-use Rattle.parcels.specs.declared.draft.Place.{Place}
 use Rattle.parcels.specs.Reads.{placed}
 use Rattle.parcels.specs.Lent.{data_size, place_of, readable, number_at, bytes_at, data_from, brought_from}
 use Rattle.parcels.proofs.Reading.{data_short, data_cut, data_named, data_brought}

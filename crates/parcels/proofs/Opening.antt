@@ -1,4 +1,4 @@
-use Rattle.std.proofs.Common.{◌≡◌, ℕ, zero, suc, ◌+◌, ◌-◌, ◌<◌, ◌≤◌, Bool, true, false, cond, not, ◌&&◌, eqb, ltb, leb, List, [], ◌∷◌, length, drop, sym, refl, ap, ◌∙◌, arith}
+use Rattle.std.proofs.Common.{◌≡◌, ℕ, zero, suc, ◌+◌, ◌-◌, ◌<◌, ◌≤◌, Bool, true, false, not, ◌&&◌, eqb, ltb, leb, List, [], length, drop, sym, refl, ap, ◌∙◌, arith}
 use Rattle.columns.specs.Checks.{denial}
 use Rattle.columns.specs.Checks as checks
 use Rattle.columns.specs.Kinds.{Kind, primitive, boolean, strings, views, lists, maps, structs, run_ended, fixed_lists, unknown, is_known}
@@ -7,7 +7,7 @@ use Rattle.columns.specs.Column.{nothing}
 use Rattle.columns.specs.Limits.{most_rows}
 use Rattle.columns.specs.Kinds.{is_run_ended}
 use Rattle.columns.specs.Reading.{Outcome, denied, reached, onward, Reading, give, each_of, must, here, begin_node, ◌>>=◌, ◌>>◌}
-use Rattle.columns.specs.Parcel.{Found, node_read, found_node}
+use Rattle.columns.specs.Parcel.{Found, node_read}
 use Rattle.columns.specs.Heads.{roles, head, must_be_allowed, allowed, ends_for, map_entries, free}
 use Rattle.columns.specs.Sent.{buffers_of, sends}
 use Rattle.columns.specs.Reading as rules_reading

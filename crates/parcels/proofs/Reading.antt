@@ -1,4 +1,4 @@
-use Rattle.std.proofs.Common.{◌≡◌, ℕ, ◌+◌, ◌-◌, ◌*◌, ◌%◌, ◌^◌, ◌<◌, ◌≤◌, Bool, true, false, cond, leb, List, [], ◌∷◌, ◌++◌, length, get_or, take, drop, Ok, Err, Result, sym, refl, ap, ◌∙◌, subst, add_assoc, arith}
+use Rattle.std.proofs.Common.{◌≡◌, ℕ, ◌+◌, ◌-◌, ◌*◌, ◌%◌, ◌^◌, ◌<◌, ◌≤◌, Bool, true, false, cond, leb, List, [], ◌∷◌, ◌++◌, length, get_or, take, drop, Ok, Err, Result, sym, refl, ap, ◌∙◌, subst, arith}
 use Rattle.std.proofs.lemmas.List.{length-drop, drop-drop, drop-take, get_or-take, take_rest, take-take, length_push}
 use Rattle.std.proofs.lemmas.Bool.{le-leb, lt-leb}
 use Rattle.columns.specs.Checks.{denial}
@@ -9,7 +9,6 @@ use Rattle.columns.specs.Reading as rules_reading
 use Rattle.columns.specs.Sent as rules_sent
 use Rattle.columns.specs.Heads as rules_heads
 use Rattle.parcels.specs.declared.draft.Place.{Place}
-use Rattle.pools.specs.declared.records.Part.{Part}
 use Rattle.parcels.specs.declared.draft.Header.{Header}
 use Rattle.parcels.specs.Reads.{placed, stepped, within, HeaderSays, Reaches, Fair}
 use Rattle.denials.specs.Said.{said}

@@ -1,22 +1,19 @@
-use Rattle.std.proofs.Common.{◌≡◌, ℕ, zero, suc, ◌+◌, ◌-◌, ◌*◌, ◌<◌, ◌≤◌, Bool, true, false, cond, ◌&&◌, eqb, ltb, List, [], ◌∷◌, ◌++◌, map, length, get_or, take, drop, set, sym, refl, ap, ◌∙◌, subst, arith}
+use Rattle.std.proofs.Common.{◌≡◌, ℕ, zero, suc, ◌+◌, ◌-◌, ◌*◌, ◌<◌, ◌≤◌, Bool, true, false, ◌&&◌, eqb, List, [], ◌∷◌, ◌++◌, map, length, get_or, take, drop, set, sym, refl, ap, ◌∙◌, arith}
 use Rattle.std.specs.List.{between, flat_map}
-use Rattle.std.proofs.lemmas.List.{append_assoc, append-nil, take-append-drop, take-take, drop-append-le, length-take-le, flat_map_more, drop-set, length_push}
+use Rattle.std.proofs.lemmas.List.{append_assoc, append-nil, take-append-drop, take-take, drop-append-le, length-take-le, flat_map_more, drop-set}
 use Rattle.std.proofs.lemmas.Slice.{between_is}
 use Rattle.std.proofs.lemmas.Bool.{ne_eqb, and_parts, and_from}
-use Rattle.columns.specs.Checks.{Check, unless, first_failing, all_of}
+use Rattle.columns.specs.Checks.{Check, all_of}
 use Rattle.columns.specs.Kinds.{Kind, primitive, boolean, strings, views, lists, maps, structs, run_ended, fixed_lists, unknown}
-use Rattle.columns.specs.Format.{kind_of, offset_bytes}
-use Rattle.columns.specs.Column.{Node, Column, Columns, column, end, ◌&◌, rows_of, width, nth, first}
+use Rattle.columns.specs.Format.{offset_bytes}
+use Rattle.columns.specs.Column.{Node, rows_of, width, nth, first}
 use Rattle.columns.specs.Reading.{Outcome, reached}
 use Rattle.columns.specs.Sent.{Data}
-use Rattle.columns.specs.Parcel.{Found, columns_from, found_node, named_before}
-use Rattle.columns.specs.SoundTests.{kind_sound, rows_are, offsets_sound, fills, role_sound}
+use Rattle.columns.specs.Parcel.{Found, columns_from}
+use Rattle.columns.specs.SoundTests.{kind_sound, rows_are, offsets_sound}
 use Rattle.columns.specs.Reading as rules
-use Rattle.parcels.specs.declared.draft.Below.{Below}
 use Rattle.parcels.specs.declared.draft.Draft.{Draft}
-use Rattle.parcels.specs.Drafts.{below_more, below_of, lent_read, given_in, buffers_in, lent_of, held_after, head_in, kind_in, node_in, kind_sound_by, sound_by, checks_in, checks_of, nodes_of, held_of, all_read, is_reached, preorder, preorders, Traced}
-use Rattle.parcels.specs.Reads.{placed, head_of, sent_of}
-use Rattle.parcels.specs.Roles.{role_of}
+use Rattle.parcels.specs.Drafts.{below_more, below_of, lent_read, given_in, buffers_in, lent_of, held_after, node_in, kind_sound_by, checks_in, checks_of, nodes_of, held_of, all_read, is_reached, preorder, preorders, Traced}
 
 module _ (parcel : List ℕ) where
   held_append : (bs : List (List ℕ)) (n : ℕ) (xs ys : List Draft) → held_of parcel bs n (xs ++ ys) ≡ held_of parcel (held_of parcel bs n xs) (n + length xs) ys

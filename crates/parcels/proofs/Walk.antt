@@ -1,7 +1,7 @@
-use Rattle.std.proofs.Common.{◌≡◌, ℕ, ◌+◌, ◌-◌, ◌<◌, ◌≤◌, Bool, true, List, [], ◌∷◌, ◌++◌, length, get_or, take, drop, sym, refl, ap, ◌∙◌, arith}
+use Rattle.std.proofs.Common.{◌≡◌, ℕ, ◌+◌, ◌-◌, ◌<◌, ◌≤◌, Bool, true, List, [], ◌∷◌, ◌++◌, length, take, drop, sym, refl, ap, ◌∙◌, arith}
 use Rattle.columns.specs.Checks as checks
 use Rattle.columns.specs.Says.{span}
-use Rattle.columns.specs.Reading.{Outcome, denied, reached, onward, each_of, big_endian, Reading}
+use Rattle.columns.specs.Reading.{Outcome, denied, onward, each_of, big_endian, Reading}
 use Rattle.columns.specs.Sent.{Data, data_buffer, data_buffers}
 use Rattle.parcels.specs.declared.draft.Place.{Place}
 use Rattle.parcels.specs.Reads.{placed, Reaches, LentAs, stepped}

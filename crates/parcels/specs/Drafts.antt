@@ -1,8 +1,8 @@
 -- What drafted nodes say of a column: its nodes in parcel order, and the checks that wait until the parcel is read.
-use Rattle.std.specs.Prelude.{◌≡◌, ℕ, zero, suc, ◌+◌, ◌-◌, ◌*◌, ◌<◌, ◌≤◌, Bool, true, false, cond, ◌&&◌, List, [], ◌∷◌, ◌++◌, map, length, take, ◌==◌, nat_eq, nat_lt, slice_index}
+use Rattle.std.specs.Prelude.{◌≡◌, ℕ, ◌+◌, ◌*◌, ◌<◌, ◌≤◌, Bool, true, false, cond, ◌&&◌, List, [], ◌∷◌, ◌++◌, length, take, ◌==◌, nat_eq, nat_lt, slice_index}
 use Rattle.std.specs.List.{between, AllByRecursion as All}
 use Rattle.columns.specs.Checks.{Check, unless, first_failing, all_of}
-use Rattle.columns.specs.Kinds.{Kind, primitive, boolean, strings, views, lists, maps, structs, run_ended, fixed_lists, unknown, is_known}
+use Rattle.columns.specs.Kinds.{Kind, primitive, boolean, strings, views, lists, maps, structs, run_ended, fixed_lists, unknown}
 use Rattle.columns.specs.Format.{kind_of, offset_bytes}
 use Rattle.columns.specs.Column.{Node, Column, Columns, column, end, ◌&◌, rows_of, width}
 use Rattle.columns.specs.Says.{span}

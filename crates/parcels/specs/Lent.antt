@@ -1,5 +1,5 @@
 -- Data buffers as they lie in the parcel, one after another.
-use Rattle.std.specs.Prelude.{ℕ, zero, suc, ◌+◌, ◌-◌, ◌^◌, Bool, true, false, cond, ◌&&◌, List, [], ◌∷◌, length, drop, nat_le}
+use Rattle.std.specs.Prelude.{ℕ, zero, suc, ◌+◌, ◌-◌, ◌^◌, Bool, true, cond, ◌&&◌, List, [], ◌∷◌, length, drop, nat_le}
 use Rattle.columns.specs.Says.{slice}
 use Rattle.columns.specs.Sent.{Data, brought, named, buffer_length, is_named}
 

@@ -1,9 +1,8 @@
 -- A node's reading, split where its children begin.
-use Rattle.std.specs.Prelude.{◌≡◌, ℕ, zero, suc, ◌+◌, ◌-◌, ◌<◌, ◌≤◌, List, [], ◌∷◌, length}
-use Rattle.columns.specs.Kinds.{Kind}
+use Rattle.std.specs.Prelude.{◌≡◌, ℕ, ◌+◌, ◌-◌, ◌<◌, ◌≤◌, List, length}
 use Rattle.columns.specs.Format.{kind_of}
 use Rattle.columns.specs.Limits.{most_rows}
-use Rattle.columns.specs.Reading.{Outcome, reached, onward, Reading, give, each_of}
+use Rattle.columns.specs.Reading.{onward, Reading, give, each_of}
 use Rattle.columns.specs.Sent.{Data}
 use Rattle.columns.specs.Parcel.{Found, found_node, node_read}
 use Rattle.columns.specs.Heads.{roles}

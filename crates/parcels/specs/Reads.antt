@@ -1,7 +1,5 @@
 -- How the program's places, parts and heads are those of the rules.
-use Rattle.std.specs.Prelude.{◌≡◌, ℕ, ◌+◌, ◌*◌, ◌%◌, ◌<◌, ◌≤◌, Bool, true, false, cond, List, [], ◌∷◌, length, take, drop, Some, None, Ok, Err, Option, Result, nat_le, slice_index}
-use Rattle.columns.specs.Checks.{denial}
-use Rattle.columns.specs.Checks as checks
+use Rattle.std.specs.Prelude.{◌≡◌, ℕ, ◌+◌, ◌*◌, ◌%◌, ◌<◌, ◌≤◌, Bool, List, length, take, drop, Some, None, Ok, Err, Option, Result, nat_le, slice_index}
 use Rattle.columns.specs.Reading.{Outcome, denied, reached, Reading, give, ◌>>=◌, each_of}
 use Rattle.columns.specs.Sent.{Data, mask_if, buffer_if, data_buffers, data_buffer, brought, named}
 use Rattle.columns.specs.Says.{span}
@@ -15,7 +13,6 @@ use Rattle.parcels.specs.declared.draft.Place.{Place}
 use Rattle.pools.specs.declared.records.Part.{Part}
 use Rattle.parcels.specs.declared.draft.Header.{Header}
 use Rattle.parcels.specs.declared.draft.Parts.{Parts}
-use Rattle.parcels.specs.declared.draft.Role.{Role}
 use Rattle.parcels.specs.declared.draft.Head.{Head}
 
 abbrev pub placed : List ℕ → Place → List (List ℕ) → rules_reading.Place

@@ -1,6 +1,5 @@
 -- What a node is to its parent, and what is asked of it, by what its format means.
-use Rattle.std.specs.Prelude.{◌≡◌, ℕ, ◌+◌, ◌*◌, Bool, true, false, cond, not, ◌&&◌, List, [], ◌∷◌, length, ◌==◌, nat_le, nat_lt}
-use Rattle.columns.specs.Kinds.{Kind}
+use Rattle.std.specs.Prelude.{ℕ, Bool, true, false, not, ◌&&◌, [], length, ◌==◌, nat_le, nat_lt}
 use Rattle.columns.specs.Kinds.{is_run_ended}
 use Rattle.columns.specs.Heads.{roles, ends_for, map_entries, free}
 use Rattle.columns.specs.Heads as rules

@@ -5,7 +5,7 @@ use Rattle.std.proofs.lemmas.List.{map-append, get_or_append_left, get_or_push, 
 use Rattle.std.proofs.lemmas.Bool.{cases_lt}
 use Rattle.std.proofs.ByRecursion.{All-append, All-weaker}
 use Rattle.columns.specs.Column.{Column, nothing}
-use Rattle.columns.specs.Pools.{Entries, pools, plus, made_needs}
+use Rattle.columns.specs.Pools.{Entries, plus, made_needs}
 use Rattle.columns.specs.Column.{at}
 use Rattle.columns.specs.Ledger.{Shelf, fresh, made_on}
 use Rattle.pools.specs.declared.records.Part.{Part}

@@ -1,5 +1,5 @@
 -- What a pen leaves of its whole buffer: a dry one says whether the text fits, a wet one puts it in front.
-use Rattle.std.proofs.Common.{◌≡◌, ℕ, ◌+◌, ◌<◌, ◌≤◌, Bool, true, false, not, leb, List, [], ◌∷◌, ◌++◌, length, take, drop, sym, refl, ap, ◌∙◌, subst, inl, inr, zero-add, arith, MutBor, le-leb}
+use Rattle.std.proofs.Common.{◌≡◌, ℕ, ◌≤◌, not, leb, List, ◌++◌, length, drop, sym, ap, ◌∙◌, inl, inr, zero-add, arith, MutBor, le-leb}
 use borrow.Author.Tests.{lt-leb}
 use Rattle.std.proofs.lemmas.Bool.{cases_lt}
 use Rattle.reading.specs.declared.pen.Pen.{Pen}

@@ -1,5 +1,5 @@
 -- Facts that have at most one proof, so that they follow from what is only known to be.
-use Rattle.std.proofs.Common.{◌≡◌, ℕ, ◌+◌, ◌<◌, ◌≤◌, List, [], ◌∷◌, Some, None, Option}
+use Rattle.std.proofs.Common.{ℕ, ◌+◌, List, [], ◌∷◌, Some, None, Option}
 use mathlib.Core.HLevel.{Π_prop, ×_prop, Unit-prop, ⊥_prop}
 use native.Mathlib.Nat.{ℕ_set}
 use native.Mathlib.Bridge.{le_prop}
@@ -16,7 +16,7 @@ use Rattle.pools.specs.Held.{view_from}
 use Rattle.pools.specs.Parts.{part_of, Inside}
 use Rattle.pools.specs.Store.{Store}
 use Rattle.rows.specs.Ranged.{RangeThere, Rises}
-use Rattle.reading.specs.Raw.{buffer_in, ViewIn, TextIn, ViewedIn, halves_at, LeafIn}
+use Rattle.reading.specs.Raw.{buffer_in, ViewIn, halves_at, LeafIn}
 use Rattle.reading.specs.Readable.{EndsIn}
 
 all_prop : {X : Type 0} (P : X → Type 0) → ((x : X) → IsProp (P x)) → (xs : List X) → IsProp (All P xs)

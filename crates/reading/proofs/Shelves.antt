@@ -1,10 +1,10 @@
 -- Rows of the columns of a shelf that the pools show, and the answers of the ledger about them.
-use Rattle.std.proofs.Common.{◌≡◌, ℕ, ◌<◌, ◌≤◌, Bool, true, false, ltb, leb, List, [], ◌∷◌, length, get_or, sym, refl, ap, ◌∙◌, subst, arith, ltb-false, ltb-true, le-ltb, lt-ltb, le-leb}
-use mathlib.Core.Option.{Option, some, none}
+use Rattle.std.proofs.Common.{◌≡◌, ℕ, ◌<◌, ◌≤◌, Bool, true, false, ltb, leb, List, [], length, get_or, sym, ap, ◌∙◌, subst, arith, ltb-false, ltb-true, le-ltb, lt-ltb, le-leb}
+use mathlib.Core.Option.{none}
 use borrow.Author.Tests.{lt-leb}
 use Rattle.std.proofs.lemmas.List.{length-take-le}
-use Rattle.columns.specs.Column.{Column, rows_of}
-use Rattle.columns.specs.Checks.{Denial, denial, unless, denied_or}
+use Rattle.columns.specs.Column.{rows_of}
+use Rattle.columns.specs.Checks.{denial, unless, denied_or}
 use Rattle.columns.specs.Ledger as ledger
 use Rattle.columns.specs.Ledger.{Shelf, column_at, buffer_at, reads, Answer, wrote, refused, answer, unless_denied}
 use Rattle.columns.specs.Limits.{most_levels}
@@ -19,7 +19,7 @@ use Rattle.pools.specs.Kept.{Standing, Ready}
 use Rattle.pools.specs.Store.{Store, store, root_of, node_entry}
 use Rattle.pools.specs.Stored.{Stored}
 use Rattle.pools.proofs.Reading.{stored_node}
-use Rattle.reading.specs.Readable.{Readable, RowReadable, row_text}
+use Rattle.reading.specs.Readable.{RowReadable, row_text}
 use Rattle.reading.specs.Answers.{ShelfReadable}
 
 pub used_to_mark : {X : Type 0} (p : Pool X) → Standing p → length (used p) ≡ p.mark

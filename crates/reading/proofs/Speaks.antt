@@ -1,5 +1,5 @@
 -- What a row of a stored node says, shape by shape, in terms of what is read.
-use Rattle.std.proofs.Common.{◌≡◌, ℕ, zero, suc, ◌+◌, ◌-◌, ◌*◌, ◌/◌, ◌<◌, ◌≤◌, max, Bool, true, false, cond, not, List, [], ◌∷◌, ◌++◌, map, length, get_or, Some, None, codes, Option as Maybe, sym, refl, ap, ◌∙◌, subst, ap₂, mul-le-mul_right, suc-mul, arith}
+use Rattle.std.proofs.Common.{◌≡◌, ℕ, zero, suc, ◌+◌, ◌-◌, ◌*◌, ◌<◌, ◌≤◌, Bool, true, false, cond, not, List, [], ◌++◌, map, length, get_or, Some, None, codes, Option as Maybe, sym, refl, ap, ◌∙◌, subst, ap₂, mul-le-mul_right, suc-mul, arith}
 use mathlib.Core.Option.{Option, some, none}
 use lib.ListN.{length-map}
 use Rattle.std.specs.List.{AllByRecursion as All}
@@ -8,27 +8,26 @@ use Rattle.formats.specs.declared.kind.Kind.{Kind}
 use Rattle.formats.specs.declared.kind.Kind.TheVariants.{Primitive, Boolean, Text, View as Viewed, List as Listed, Map, Struct, RunEnds, FixedList}
 use Rattle.formats.specs.Kinds.{layout}
 use Rattle.formats.specs.Spelled.{bytes_of}
-use Rattle.columns.specs.Column.{View, short, Node, Column, Columns, column, end, ◌&◌, node, children, width, first, rest, nth, kind, rows_of}
+use Rattle.columns.specs.Column.{short, Node, Column, Columns, column, end, ◌&◌, node, children, width, first, rest, nth, kind, rows_of}
 use Rattle.columns.specs.Kinds as rules
 use Rattle.columns.specs.Kinds.{is_primitive}
 use Rattle.columns.specs.Column.{view_at}
-use Rattle.columns.specs.Gathering.{ranges}
 use Rattle.columns.specs.Limits.{depth, depth_below, node_count}
 use Rattle.columns.specs.Says.{Said, null, number, bit, bytes, list, struct, saids, says, each_says, row_says, kid, span, slice, ends_of, entry, offset_start, offset_length, view_text}
-use Rattle.columns.specs.Masks.{valid, mask_valid}
-use Rattle.columns.specs.Sound.{Sound, EachSound, KindSound, ViewSound, Offsets, RowsAre, Climbs}
-use Rattle.columns.specs.Text.{text, texts, hex_number}
+use Rattle.columns.specs.Masks.{valid}
+use Rattle.columns.specs.Sound.{Sound, EachSound, KindSound, ViewSound, Offsets, Climbs}
+use Rattle.columns.specs.Text.{text, hex_number}
 use Rattle.columns.proofs.Every.{entry_known}
 use Rattle.columns.proofs.Formats.{ends_primitive}
 use Rattle.columns.proofs.Rows.{offsets_within}
 use Rattle.columns.proofs.Tree.{says_is, kid_is, kid_says, sound_kind, sound_child}
 use Rattle.pools.specs.declared.records.Part.{Part}
 use Rattle.pools.specs.declared.records.Node.{Node as Entry}
-use Rattle.pools.specs.Parts.{part_of, Inside}
-use Rattle.pools.specs.Store.{Store, Segment, Lies, node_entry, no_halves}
-use Rattle.pools.specs.Held.{values_pool, views_pool, view_from, BitsLie, MaskLies, BuffersLie, Held}
-use Rattle.pools.specs.Bits.{bit_of, mask_bit, MaskThere}
-use Rattle.rows.specs.Ranged.{row_range, RangeThere, Rises, text_part}
+use Rattle.pools.specs.Parts.{Inside}
+use Rattle.pools.specs.Store.{Store, Segment, node_entry, no_halves}
+use Rattle.pools.specs.Held.{values_pool, views_pool, view_from, MaskLies, BuffersLie, Held}
+use Rattle.pools.specs.Bits.{mask_bit, MaskThere}
+use Rattle.rows.specs.Ranged.{row_range, RangeThere, Rises}
 use Rattle.pools.specs.Stored.{Stored, EachStored}
 use Rattle.rows.proofs.Entries.{climbs_rise}
 use Rattle.pools.proofs.Fronts.{segment_at, segment_length}
@@ -36,8 +35,8 @@ use Rattle.rows.proofs.Ranging.{Ranged, range_read, text_told}
 use Rattle.pools.proofs.Reading.{byte_in, bit_read, valid_read, stored_node, stored_children, first_stored}
 use Rattle.reading.specs.declared.shape.Shape.{Shape}
 use Rattle.reading.specs.declared.shape.Shape.TheVariants.{Leaf, Ranges, Fields, Runs}
-use Rattle.reading.specs.Raw.{buffer_in, commas, bit_text, quoted, viewed, ViewIn, halves_at, leaf_text, LeafIn, TextIn, ViewedIn}
-use Rattle.reading.specs.Readable.{Readable, RowReadable, RowsReadable, FieldsReadable, row_text, rows_text, fields_text, shape_of, ends_part, ends_at, EndsIn}
+use Rattle.reading.specs.Raw.{buffer_in, commas, bit_text, quoted, viewed, halves_at, leaf_text, LeafIn}
+use Rattle.reading.specs.Readable.{Readable, RowReadable, RowsReadable, FieldsReadable, row_text, rows_text, fields_text, shape_of, ends_at, EndsIn}
 use Rattle.reading.proofs.Texts.{texts_are}
 
 -- A leaf.

@@ -1,8 +1,8 @@
 -- The text of a list or a struct, element by element.
-use Rattle.std.proofs.Common.{◌≡◌, ℕ, List, [], ◌∷◌, ◌++◌, map, codes, sym, refl, ap, ◌∙◌}
-use Rattle.columns.specs.Says.{Said, Saids, saids, done, then}
+use Rattle.std.proofs.Common.{◌≡◌, ℕ, List, [], ◌∷◌, ◌++◌, map, codes, refl, ap, ◌∙◌}
+use Rattle.columns.specs.Says.{Said, saids}
 use Rattle.columns.specs.Text.{text, texts}
-use Rattle.reading.specs.Raw.{tailed, commas}
+use Rattle.reading.specs.Raw.{commas}
 
 two_texts : (x y : Said) (xs : List Said) → texts (saids (x ∷ y ∷ xs)) ≡ text x ++ (codes "," ++ texts (saids (y ∷ xs)))
 unfolding texts

@@ -1,7 +1,7 @@
 -- The text of a view, and how many entries a pool has.
-use Rattle.std.proofs.Common.{◌≡◌, ℕ, zero, suc, ◌+◌, ◌-◌, ◌*◌, ◌/◌, ◌%◌, ◌^◌, ◌<◌, ◌≤◌, min, Bool, true, false, cond, ltb, List, [], ◌∷◌, ◌++◌, map, length, get_or, take, drop, sym, refl, ap, ◌∙◌, subst, inl, inr, arith, length-drop, length-take, le-ltb, lt-ltb}
+use Rattle.std.proofs.Common.{◌≡◌, ℕ, zero, suc, ◌+◌, ◌-◌, ◌/◌, ◌%◌, ◌^◌, ◌<◌, ◌≤◌, min, Bool, cond, List, [], ◌∷◌, ◌++◌, length, get_or, take, sym, refl, ap, ◌∙◌, subst, inl, inr, arith, length-take, le-ltb, lt-ltb}
 use lib.ListN.{length-map}
-use Rattle.std.specs.List.{flat_map, AllByRecursion as All}
+use Rattle.std.specs.List.{flat_map}
 use Rattle.std.proofs.lemmas.List.{take-append-le, append-nil, append_assoc, get_or-map, get_or_past}
 use Rattle.std.proofs.ByRecursion.{All-get_or}
 use Rattle.std.proofs.lemmas.Bool.{cases_lt}
@@ -9,7 +9,7 @@ use Rattle.formats.specs.declared.format.Width.{Width}
 use Rattle.formats.specs.declared.format.Width.TheVariants.{One, Two, Four, Eight}
 use Rattle.formats.specs.declared.kind.Kind.{Kind}
 use Rattle.formats.specs.declared.kind.Kind.TheVariants.{Primitive, Boolean, Text, View as Viewed, List as Listed, Map, Struct, RunEnds, FixedList}
-use Rattle.columns.specs.Column.{View, short, long}
+use Rattle.columns.specs.Column.{short, long}
 use Rattle.columns.specs.Bytes.{le_bytes}
 use Rattle.columns.specs.Says.{slice, view_text}
 use Rattle.columns.specs.Sound.{ViewSound}
@@ -18,7 +18,6 @@ use Rattle.pools.specs.declared.pools.Pools.{Pools}
 use Rattle.pools.specs.declared.records.Part.{Part}
 use Rattle.pools.specs.declared.records.View.{View as Halves}
 use Rattle.pools.specs.declared.records.Node.{Node as Entry}
-use Rattle.pools.specs.Grown.{most_entries}
 use Rattle.pools.specs.Used.{used}
 use Rattle.pools.specs.Kept.{Standing, Ready}
 use Rattle.pools.specs.Parts.{part_of, Inside, buffers_in}

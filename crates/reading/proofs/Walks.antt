@@ -1,17 +1,17 @@
 -- Walks over some rows of a column, and over a row of some columns: what is left gives the whole.
-use Rattle.std.proofs.Common.{◌≡◌, ℕ, zero, suc, ◌+◌, ◌-◌, ◌<◌, ◌≤◌, max, Bool, cond, ltb, List, [], ◌∷◌, ◌++◌, map, codes, sym, refl, ap, ◌∙◌, subst, append_assoc, arith, lt-ltb}
-use Rattle.columns.specs.Column.{Column, Columns, end, ◌&◌, width, first, rest, rows_of}
-use Rattle.columns.specs.Limits.{depth, depth_below}
-use Rattle.columns.specs.Says.{Said, says, each_says, span}
-use Rattle.columns.specs.Sound.{Sound, EachSound, RowsAre}
+use Rattle.std.proofs.Common.{◌≡◌, ℕ, zero, suc, ◌+◌, ◌-◌, ◌<◌, ◌≤◌, Bool, cond, ltb, List, [], ◌∷◌, ◌++◌, map, codes, sym, refl, ap, ◌∙◌, subst, append_assoc, arith, lt-ltb}
+use Rattle.columns.specs.Column.{Column, Columns, end, ◌&◌, width, first, rest}
+use Rattle.columns.specs.Limits.{depth}
+use Rattle.columns.specs.Says.{says, each_says, span}
+use Rattle.columns.specs.Sound.{Sound}
 use Rattle.columns.specs.Text.{text}
 use Rattle.pools.specs.declared.records.Part.{Part}
 use Rattle.pools.specs.Store.{Store}
 use Rattle.pools.specs.Stored.{Stored, EachStored}
 use Rattle.reading.specs.declared.pen.Pen.{Pen}
 use Rattle.reading.specs.Inked.{inked, wrote}
-use Rattle.reading.specs.Raw.{buffer_in, commas, tailed, comma_before, commas_from}
-use Rattle.reading.specs.Readable.{Readable, RowReadable, RowsReadable, FieldsReadable, row_text, rows_text, fields_text}
+use Rattle.reading.specs.Raw.{buffer_in, commas, comma_before, commas_from}
+use Rattle.reading.specs.Readable.{RowReadable, RowsReadable, FieldsReadable, row_text, rows_text, fields_text}
 use Rattle.reading.proofs.Pens.{wrote_none, last, piece}
 
 pub commas_none : (k : ℕ) → commas_from k [] ≡ []

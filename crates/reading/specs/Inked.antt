@@ -1,5 +1,5 @@
 -- What a pen has written.
-use Rattle.std.specs.Prelude.{ℕ, ◌+◌, Bool, true, false, cond, List, [], ◌∷◌, length, nat_lt, slice_set}
+use Rattle.std.specs.Prelude.{ℕ, ◌+◌, true, cond, List, [], ◌∷◌, length, nat_lt, slice_set}
 use denote.Ref.{at_last}
 use Rattle.reading.specs.declared.pen.Pen.{Pen}
 

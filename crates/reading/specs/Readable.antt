@@ -1,11 +1,11 @@
 -- A stored column that can be read, and what its rows say.
-use Rattle.std.specs.Prelude.{◌≡◌, ℕ, ◌+◌, ◌<◌, ◌≤◌, List, [], ◌∷◌, map, length}
+use Rattle.std.specs.Prelude.{◌≡◌, ℕ, ◌+◌, ◌<◌, ◌≤◌, List, [], map}
 use Rattle.std.specs.List.{AllByRecursion as All}
 use Rattle.formats.specs.declared.kind.Kind.{Kind}
 use Rattle.formats.specs.declared.kind.Kind.TheVariants.{Primitive, Boolean, Text, View as Viewed, List as Listed, Map, Struct, RunEnds, FixedList}
 use Rattle.columns.specs.Column.{Column, Columns, width, rows_of}
 use Rattle.columns.specs.Limits.{depth, depth_below}
-use Rattle.columns.specs.Says.{Said, says, each_says, span}
+use Rattle.columns.specs.Says.{says, each_says, span}
 use Rattle.columns.specs.Sound.{Sound, EachSound, RowsAre}
 use Rattle.columns.specs.Text.{text}
 use Rattle.pools.specs.declared.records.Part.{Part}

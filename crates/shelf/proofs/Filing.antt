@@ -1,12 +1,12 @@
 -- What standing pools give those who file.
-use Rattle.std.proofs.Common.{◌≡◌, ℕ, zero, suc, ◌+◌, ◌-◌, ◌<◌, ◌≤◌, ◌⊎◌, List, [], ◌∷◌, ◌++◌, map, length, get_or, sym, refl, ap, ◌∙◌, subst, inl, inr, arith}
+use Rattle.std.proofs.Common.{◌≡◌, ℕ, ◌+◌, ◌-◌, ◌<◌, ◌≤◌, ◌⊎◌, List, [], ◌∷◌, ◌++◌, map, length, get_or, sym, refl, ap, ◌∙◌, subst, inl, inr, arith}
 use mathlib.Core.HLevel.{×_prop, Unit-prop}
 use mathlib.Core.Logic.{∥∥₁_elim}
 use mathlib.Core.Option.{none}
 use native.Mathlib.Bridge.{le_prop}
 use Rattle.std.specs.List.{AllByRecursion as All}
 use Rattle.std.proofs.lemmas.List.{get_or_past}
-use Rattle.columns.specs.Pools.{Entries, of_pool, pools, plus, filed_needs}
+use Rattle.columns.specs.Pools.{Entries, of_pool, pools}
 use Rattle.columns.specs.Reading.{Outcome, denied, reached}
 use Rattle.columns.specs.Parcel.{Found, parcel_read}
 use Rattle.columns.specs.Ledger.{Call, Ledger, empty, ◌then◌, filing, interleaving, Shelf, shelf_of, filed_on}
@@ -16,8 +16,6 @@ use Rattle.pools.specs.declared.records.Part.{Part}
 use Rattle.pools.specs.Used.{used}
 use Rattle.pools.specs.Parts.{buffers_in}
 use Rattle.pools.specs.Marked.{marks_of, entries}
-use Rattle.pools.specs.Store.{store}
-use Rattle.pools.specs.Shows.{counts}
 use Rattle.pools.proofs.Rooms.{counts_are_marks}
 use Rattle.parcels.specs.Reads.{Within}
 use Rattle.admission.specs.declared.entries.Entries.{Entries as Listed}

@@ -1,10 +1,10 @@
 -- A fresh shelf stands for no calls.
-use Rattle.std.proofs.Common.{◌≡◌, ℕ, ◌≤◌, List, [], length, sym, subst, arith}
+use Rattle.std.proofs.Common.{ℕ, [], arith}
 use Rattle.columns.specs.Ledger.{shelf_of}
 use Rattle.pools.specs.declared.pool.Pool.{Pool}
 use Rattle.pools.specs.declared.pools.Pools.{Pools}
 use Rattle.pools.specs.Marked.{at_mark, marked, no_marks}
-use Rattle.pools.specs.Kept.{Standing, Ready}
+use Rattle.pools.specs.Kept.{Standing}
 use Rattle.pools.proofs.Showing.{shows_fresh}
 use Rattle.shelf.specs.Stands.{Stands}
 

@@ -1,7 +1,7 @@
 -- What standing pools give those who read and add.
-use Rattle.std.proofs.Common.{◌≡◌, ℕ, ◌<◌, List, length, sym, subst, arith}
+use Rattle.std.proofs.Common.{ℕ, List, arith}
 use native.Mathlib.Bridge.{le_prop}
-use Rattle.columns.specs.Ledger.{Call, shelf_of, lines}
+use Rattle.columns.specs.Ledger.{Call, shelf_of}
 use Rattle.columns.specs.Run.{Kept}
 use Rattle.columns.proofs.Parcel.{parcel_is_sound}
 use Rattle.columns.proofs.Ledger.{every_run}

@@ -1,16 +1,16 @@
-use Rattle.std.proofs.Common.{◌≡◌, ℕ, zero, suc, ◌+◌, ◌-◌, ◌*◌, ◌/◌, ◌%◌, ◌^◌, ◌<◌, ◌≤◌, Bool, true, false, cond, ◌&&◌, eqb, ltb, leb, ◌⊎◌, List, [], ◌∷◌, map, length, get_or, take, drop, set, sym, refl, ap, ◌∙◌, subst, inl, inr, div-lt_iff_lt-mul, div-add-mod', mul-div_cancel, arith}
+use Rattle.std.proofs.Common.{◌≡◌, ℕ, ◌+◌, ◌-◌, ◌*◌, ◌/◌, ◌%◌, ◌<◌, ◌≤◌, Bool, true, false, ◌&&◌, eqb, ltb, leb, List, [], length, get_or, take, drop, set, sym, ap, ◌∙◌, subst, inl, inr, div-lt_iff_lt-mul, div-add-mod', mul-div_cancel, arith}
 use native.Mathlib.Nat.{mul-mod_left}
 use Rattle.std.proofs.lemmas.List.{at_drop_more, at_drop_all, get_or-map, length-map, get_or-set_same, get_or-set_other, get_or_past}
-use Rattle.std.proofs.lemmas.Bool.{le-leb, lt-ltb, cond-true, cond-false, cases_eq}
+use Rattle.std.proofs.lemmas.Bool.{lt-ltb, cond-true, cases_eq}
 use Rattle.columns.specs.Checks.{all_of}
 use Rattle.columns.specs.Column.{View, short, long, view_of}
 use Rattle.columns.specs.Says.{span, slice}
 use Rattle.columns.specs.Sound.{little_endian}
-use Rattle.columns.specs.Sent.{is_named, buffer_length}
+use Rattle.columns.specs.Sent.{is_named}
 use Rattle.columns.specs.Contents.{value_at, view_in, views_in}
 use Rattle.pools.specs.declared.records.Part.{Part}
 use Rattle.pools.specs.Parts.{part_of, buffers_in}
-use Rattle.parcels.specs.Lent.{place_of, readable, number_at, bytes_at, data_size}
+use Rattle.parcels.specs.Lent.{place_of, readable, number_at, bytes_at}
 use Rattle.parcels.proofs.Along.{length_span}
 use Rattle.parcels.proofs.Lents.{place_place, readable_part}
 use Rattle.soundness.specs.declared.places.Places.{Places}

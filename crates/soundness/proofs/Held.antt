@@ -1,15 +1,13 @@
-use Rattle.std.proofs.Common.{◌≡◌, ℕ, zero, suc, ◌+◌, ◌-◌, ◌*◌, ◌<◌, ◌≤◌, Bool, true, false, cond, ◌&&◌, eqb, ltb, leb, ◌⊎◌, List, [], ◌∷◌, ◌++◌, map, length, get_or, drop, sym, refl, ap, ◌∙◌, subst, inl, inr, arith}
+use Rattle.std.proofs.Common.{◌≡◌, ℕ, zero, suc, ◌+◌, ◌<◌, ◌≤◌, Bool, true, false, cond, ◌&&◌, eqb, ltb, leb, List, [], ◌∷◌, ◌++◌, map, length, get_or, drop, sym, refl, ap, ◌∙◌, subst, inl, inr, arith}
 use mathlib.Core.Option as math
 use Rattle.std.proofs.lemmas.List.{append_assoc, length_push, length-append, length-map, get_or-map, get_or_at, get_or_append_left}
 use Rattle.std.proofs.lemmas.Bool.{cases_Bool, cases_lt, ltb-true, le-ltb}
-use Rattle.columns.specs.Checks.{all_of, first_failing}
+use Rattle.columns.specs.Checks.{all_of}
 use Rattle.columns.specs.Kinds.{Kind, strings, views}
-use Rattle.columns.specs.Format.{offset_bytes}
 use Rattle.columns.specs.Column.{View, short, long}
 use Rattle.columns.specs.Says.{slice}
 use Rattle.columns.specs.Sound.{little_endian}
 use Rattle.columns.specs.Sent.{Data, brought, named, number_of, is_named}
-use Rattle.columns.specs.Parcel.{named_before}
 use Rattle.columns.specs.SoundTests.{view_sound, offsets_sound}
 use Rattle.columns.specs.Contents.{views_in, values_in, node_from}
 use Rattle.pools.specs.declared.records.Part.{Part}
@@ -17,9 +15,9 @@ use Rattle.pools.specs.Parts.{part_of, buffers_in}
 use Rattle.parcels.specs.declared.draft.Draft.{Draft}
 use Rattle.parcels.specs.Lent.{data_size, place_of, number_at, bytes_at, data_from, brought_from}
 use Rattle.parcels.specs.Reads.{sent_of, within}
-use Rattle.parcels.specs.Drafts.{Drafted, kind_in, head_in, kind_sound_by}
+use Rattle.parcels.specs.Drafts.{Drafted, head_in, kind_sound_by}
 use Rattle.formats.specs.Kinds.{layout, offset_width}
-use Rattle.soundness.specs.Sources.{source_at, view_fine, sources}
+use Rattle.soundness.specs.Sources.{view_fine, sources}
 use Rattle.soundness.specs.Ladder.{data_of, held_by, unshelved_in, kind_sound_in}
 use Rattle.soundness.proofs.Fills.{length_within}
 

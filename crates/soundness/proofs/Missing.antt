@@ -1,7 +1,7 @@
-use Rattle.std.proofs.Common.{◌≡◌, ℕ, zero, suc, ◌+◌, ◌-◌, ◌<◌, ◌≤◌, Bool, true, false, cond, ltb, ◌⊎◌, List, [], ◌∷◌, length, drop, Some, None, Option, sym, refl, ap, ◌∙◌, inl, inr, arith}
+use Rattle.std.proofs.Common.{◌≡◌, ℕ, zero, suc, ◌+◌, ◌-◌, ◌<◌, ◌≤◌, Bool, true, false, cond, ltb, List, drop, Some, None, Option, sym, refl, ap, ◌∙◌, inl, inr, arith}
 use mathlib.Core.Option as math
 use Rattle.std.proofs.lemmas.Bool.{cases_Bool}
-use Rattle.columns.specs.Sent.{Data, brought, named, is_named}
+use Rattle.columns.specs.Sent.{is_named}
 use Rattle.formats.specs.Spelled.{lifted}
 use Rattle.parcels.specs.Lent.{data_size, place_of, number_at, data_from}
 use Rattle.parcels.proofs.Lents.{place_more}

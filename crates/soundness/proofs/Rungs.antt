@@ -1,17 +1,17 @@
-use Rattle.std.proofs.Common.{◌≡◌, ℕ, ◌+◌, ◌<◌, ◌≤◌, Bool, true, false, ltb, List, [], ◌∷◌, ◌++◌, length, drop, Some, None, Option, sym, refl, ap, ◌∙◌, subst, arith}
+use Rattle.std.proofs.Common.{◌≡◌, ℕ, ◌+◌, ◌≤◌, Bool, true, false, List, [], ◌∷◌, ◌++◌, length, drop, Some, None, sym, refl, ap, ◌∙◌, arith}
 use mathlib.Core.Option as math
 use Rattle.std.proofs.lemmas.List.{append_assoc, append-nil, drop_all}
 use Rattle.columns.specs.Checks.{first_denial, denied_or, unless, denial}
 use Rattle.columns.specs.Checks as checks
-use Rattle.columns.specs.Reading.{Outcome, reached}
+use Rattle.columns.specs.Reading.{Outcome}
 use Rattle.columns.specs.Sent.{Data}
 use Rattle.formats.specs.Spelled.{lifted}
 use Rattle.formats.specs.declared.kind.Kind.TheVariants.{Primitive}
 use Rattle.formats.specs.declared.format.Width.TheVariants.{One}
 use Rattle.parcels.specs.declared.draft.Draft.{Draft}
 use Rattle.parcels.specs.declared.draft.Role.TheVariants.{Ends}
-use Rattle.parcels.specs.Lent.{data_from, brought_from}
-use Rattle.parcels.specs.Drafts.{Drafted, checks_of, lent_read, lent_of, held_after, given_in, buffers_in, checks_in}
+use Rattle.parcels.specs.Lent.{brought_from}
+use Rattle.parcels.specs.Drafts.{Drafted, checks_of, lent_of, held_after, given_in, buffers_in, checks_in}
 use Rattle.parcels.proofs.Lents.{reads_flat}
 use Rattle.soundness.specs.Ladder.{data_of, held_by, unshelved_in, sound_in}
 

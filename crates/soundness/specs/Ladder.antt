@@ -1,11 +1,10 @@
 -- The checks of drafts, by their data buffers as they lie in the parcel.
-use Rattle.std.specs.Prelude.{◌≡◌, ℕ, zero, suc, ◌+◌, ◌-◌, Bool, true, false, cond, ltb, List, [], ◌∷◌, ◌++◌, length, drop, Some, None, Ok, Err, Option, Result, nat_lt}
+use Rattle.std.specs.Prelude.{ℕ, zero, suc, ◌+◌, Bool, cond, ltb, List, ◌++◌, length, drop, Some, None, Ok, Err, Option, Result, nat_lt}
 use Rattle.std.proofs.Math.Option as math
 use Rattle.columns.specs.Checks.{first_failing}
 use Rattle.columns.specs.Checks as checks
 use Rattle.columns.specs.Sent.{Data, is_named}
 use Rattle.columns.specs.Parcel.{named_before}
-use Rattle.pools.specs.declared.records.Part.{Part}
 use Rattle.denials.specs.declared.Denial.{Denial}
 use Rattle.parcels.specs.declared.draft.Draft.{Draft}
 use Rattle.parcels.specs.Lent.{data_size, number_at, data_from, brought_from}

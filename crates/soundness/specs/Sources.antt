@@ -1,5 +1,5 @@
 -- The bytes behind a node's data buffers.
-use Rattle.std.specs.Prelude.{◌≡◌, ℕ, ◌+◌, ◌*◌, ◌/◌, ◌<◌, ◌≤◌, Bool, true, false, cond, ◌&&◌, List, [], ◌∷◌, length, drop, ◌==◌, nat_le, nat_lt, slice_index, slice_index_or}
+use Rattle.std.specs.Prelude.{◌≡◌, ℕ, ◌+◌, ◌*◌, ◌/◌, ◌<◌, Bool, true, false, cond, ◌&&◌, List, [], length, drop, ◌==◌, nat_le, nat_lt, slice_index, slice_index_or}
 use Rattle.columns.specs.Column.{View, short, long}
 use Rattle.columns.specs.Says.{slice}
 use Rattle.columns.specs.Sound.{little_endian}

@@ -1,14 +1,13 @@
 -- Decoding gives back what was encoded.
-use Rattle.std.proofs.Common.{◌≡◌, ℕ, zero, suc, ◌+◌, ◌-◌, ◌*◌, ◌/◌, ◌%◌, ◌^◌, ◌<◌, ◌≤◌, Bool, true, false, cond, List, [], ◌∷◌, ◌++◌, length, get_or, take, drop, IfOk, Ok, Err, Result, sym, refl, ap, ◌∙◌, subst, ap₂, append_assoc, add-zero, add_assoc, zero-add, add-one, arith, rules}
+use Rattle.std.proofs.Common.{◌≡◌, ℕ, zero, suc, ◌+◌, ◌*◌, ◌<◌, ◌≤◌, List, [], ◌∷◌, ◌++◌, length, get_or, take, drop, IfOk, Ok, Err, Result, sym, refl, ap, ◌∙◌, ap₂, append_assoc, add_assoc, arith}
 use Rattle.std.specs.List.{flat_map}
-use Rattle.std.proofs.lemmas.List.{length-append, get_or-append-add, take-append-le, take_all, drop-drop, drop-append-le, drop_all}
+use Rattle.std.proofs.lemmas.List.{length-append, get_or-append-add, take-append-le, take_all, drop-drop}
 use Rattle.std.proofs.lemmas.Bool.{cond-false, le-ltb}
-use Rattle.wire.specs.Calls.{Call, file, interleave, read, Front, whole, front, front_by, call_in, extent_of, most_bytes, u16_at, u32_at, columns_in, pairs_in, head_size, call_size, reach}
+use Rattle.wire.specs.Calls.{Call, file, interleave, read, whole, front, front_by, call_in, extent_of, most_bytes, u16_at, u32_at, columns_in, pairs_in, head_size, call_size, reach}
 use Rattle.wire.specs.Encoded.{u16_bytes, u32_bytes, pair_bytes, encoded, DecodingGivesBack}
 use Rattle.wire.specs.Calls.{told}
 use Rattle.wire.specs.declared.call.Decoded.{Decoded}
-use Rattle.wire.specs.declared.call.Extent.{Extent}
-use Rattle.wire.specs.declared.call.Extent.TheVariants.{Has, Lacks, Unknown, TooLong}
+use Rattle.wire.specs.declared.call.Extent.TheVariants.{Has}
 
 u16_back : (n : ℕ) (rest : List ℕ) → u16_at (u16_bytes n ++ rest) 0 ≡ n
 u16_back n rest = omega arith

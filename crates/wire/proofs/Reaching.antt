@@ -1,11 +1,9 @@
 -- How far a call reaches, as more of it is read.
-use Rattle.std.proofs.Common.{◌≡◌, ℕ, zero, suc, ◌+◌, ◌-◌, ◌*◌, ◌<◌, ◌≤◌, Bool, true, false, cond, eqb, ltb, ◌⊎◌, List, [], ◌∷◌, ◌++◌, length, get_or, take, drop, sym, refl, ap, ◌∙◌, subst, ap₂, inl, inr, ⊎_elim, suc-add, zero-add, arith, rules}
-use Rattle.std.proofs.lemmas.Bool.{ltb-true, ltb-false, cases_Bool, cond-true, cond-false}
-use Rattle.std.proofs.lemmas.List.{get_or_append_left, length-append, length-take-le, take-append-drop, take-append-le}
+use Rattle.std.proofs.Common.{◌≡◌, ℕ, ◌+◌, ◌-◌, ◌*◌, ◌<◌, ◌≤◌, Bool, true, false, cond, eqb, ◌⊎◌, List, [], ◌∷◌, ◌++◌, length, take, sym, refl, ap, ◌∙◌, ap₂, inl, inr, suc-add, zero-add, arith, rules}
+use Rattle.std.proofs.lemmas.List.{get_or_append_left, length-append, length-take-le, take-append-le}
 use borrow.Rule.Slice.PartMut.{put_mid, post_of}
-use Rattle.wire.specs.Calls.{head_size, call_size, by_letter, reach, extent_of, OneCall, u16_at, u32_at, most_bytes}
-use Rattle.wire.specs.declared.call.Extent.{Extent}
-use Rattle.wire.specs.declared.call.Extent.TheVariants.{Has, Lacks, Unknown, TooLong}
+use Rattle.wire.specs.Calls.{head_size, call_size, reach, extent_of, OneCall, u16_at, u32_at, most_bytes}
+use Rattle.wire.specs.declared.call.Extent.TheVariants.{Has, Lacks}
 
 -- What is known of a call that is there whole, and of one that lacks some bytes.
 abbrev pub Whole : ℕ → List ℕ → ℕ → Type 0

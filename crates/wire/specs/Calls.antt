@@ -1,5 +1,5 @@
 -- Calls as bytes: a letter and its fields, most significant byte first.
-use Rattle.std.specs.Prelude.{◌≡◌, ℕ, zero, suc, ◌+◌, ◌-◌, ◌*◌, Bool, cond, List, [], ◌∷◌, ◌++◌, length, take, drop, vec_items, ◌==◌, nat_lt, slice_index}
+use Rattle.std.specs.Prelude.{◌≡◌, ℕ, zero, suc, ◌+◌, ◌-◌, ◌*◌, cond, List, [], ◌∷◌, ◌++◌, length, take, drop, vec_items, ◌==◌, nat_lt, slice_index}
 use Rattle.wire.specs.declared.call.Call as code
 use Rattle.wire.specs.declared.call.Call.TheVariants as variant
 use Rattle.wire.specs.declared.call.Decoded as decoded

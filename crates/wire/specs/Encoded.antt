@@ -1,7 +1,7 @@
 -- The bytes of a call, and the law that decoding gives back what was encoded.
 use Rattle.std.specs.Prelude.{◌≡◌, ℕ, ◌/◌, ◌%◌, ◌≤◌, List, [], ◌∷◌, ◌++◌, length}
 use Rattle.std.specs.List.{flat_map}
-use Rattle.wire.specs.Calls.{Call, file, interleave, read, Front, whole, front, most_bytes}
+use Rattle.wire.specs.Calls.{Call, file, interleave, read, whole, front, most_bytes}
 
 -- Numbers of 16 and 32 bits, most significant byte first.
 abbrev pub u16_bytes : ℕ → List ℕ

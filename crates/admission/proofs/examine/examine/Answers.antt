@@ -1,4 +1,4 @@
-use Rattle.std.proofs.Common.{◌≡◌, ℕ, ◌-◌, List, length, take, sym, refl, ap, ◌∙◌}
+use Rattle.std.proofs.Common.{ℕ, length, take, sym, ap, ◌∙◌}
 use native.Mathlib.Nat.{sub-zero}
 use Rattle.std.proofs.lemmas.Result.{err_from_is_err_and}
 use Rattle.columns.specs.Checks.{first_denial}
@@ -6,7 +6,7 @@ use Rattle.columns.specs.Pools.{plus, one_column}
 use Rattle.pools.specs.Parts.{buffers_in}
 use Rattle.denials.specs.Said.{said}
 use Rattle.parcels.specs.Drafts.{checks_of}
-use Rattle.admission.specs.Needs.{listed, drafts_need}
+use Rattle.admission.specs.Needs.{drafts_need}
 use Rattle.admission.proofs.Deciding.{needed_is, denied_by_node, denied_room, accepted}
 use Rattle.admission.proofs.examine.examine.Goals as goal
 

@@ -1,4 +1,4 @@
-use Rattle.std.proofs.Common.{◌≡◌, ℕ, ◌*◌, ◌≤◌, refl, arith}
+use Rattle.std.proofs.Common.{◌≤◌, arith}
 use Rattle.admission.proofs.Counting.{counted_start, counted_fits, counted_more, counted_all}
 use Rattle.admission.proofs.needs.brought.Goals as goal
 

@@ -1,6 +1,6 @@
-use Rattle.std.proofs.Common.{◌≡◌, ℕ, ◌+◌, ◌<◌, ◌≤◌, List, sym, refl, ap, ◌∙◌, subst, arith}
+use Rattle.std.proofs.Common.{ℕ, ◌+◌, ◌<◌, ◌≤◌, sym, ap, ◌∙◌, subst, arith}
 use Rattle.std.specs.List.{AllByRecursion as All}
-use Rattle.admission.specs.Needs.{listed, kind_entries, mask_need, new_bytes, new_count}
+use Rattle.admission.specs.Needs.{kind_entries, mask_need, new_bytes}
 use Rattle.admission.proofs.Counting.{kind_low}
 use Rattle.admission.proofs.needs.draft_needs.Goals as goal
 

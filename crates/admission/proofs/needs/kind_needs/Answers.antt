@@ -1,4 +1,4 @@
-use Rattle.std.proofs.Common.{◌≡◌, sym, ap, ◌∙◌}
+use Rattle.std.proofs.Common.{sym, ap, ◌∙◌}
 use Rattle.formats.specs.declared.kind.Kind.{Kind}
 use Rattle.admission.specs.Needs.{kind_entries}
 use Rattle.admission.proofs.needs.kind_needs.Goals as goal

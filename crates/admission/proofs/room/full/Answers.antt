@@ -1,5 +1,4 @@
-use Rattle.std.proofs.Common.{◌≡◌, ℕ, sym, refl, ap, ◌∙◌}
-use Rattle.columns.specs.Pools.{full_pool}
+use Rattle.std.proofs.Common.{refl, ap, ◌∙◌}
 use Rattle.formats.specs.Spelled.{lifted}
 use Rattle.admission.specs.Needs.{listed}
 use Rattle.admission.proofs.Rooms.{full_by, left_more, left_full, left_none}

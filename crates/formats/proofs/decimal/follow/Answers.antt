@@ -1,6 +1,6 @@
-use Rattle.std.proofs.Common.{◌≡◌, ℕ, ◌+◌, ◌*◌, ◌∷◌, get_or, drop, Some, None, Option, sym, ap, ◌∙◌, arith, rules}
-use Rattle.std.proofs.lemmas.List.{at_drop_more, at_drop_all}
-use Rattle.formats.specs.Spelled.{digit_of, capped, then}
+use Rattle.std.proofs.Common.{◌≡◌, drop, Some, None, sym, ap, ◌∙◌, arith}
+use Rattle.std.proofs.lemmas.List.{at_drop_all}
+use Rattle.formats.specs.Spelled.{digit_of}
 use Rattle.formats.specs.Spelled.{digits_from as go}
 use Rattle.formats.proofs.Decimals.{go_bad, go_on, capped_small}
 use Rattle.formats.proofs.decimal.follow.Goals as goal

@@ -1,4 +1,4 @@
-use Rattle.std.proofs.Common.{sym, rules}
+use Rattle.std.proofs.Common.{sym}
 use lib.ListN.{length-replicate}
 use Rattle.columns.specs.Heads.{free}
 use Rattle.parcels.proofs.allow.children_of.Goals as goal

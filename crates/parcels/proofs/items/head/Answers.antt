@@ -1,11 +1,11 @@
-use Rattle.std.proofs.Common.{◌≡◌, ℕ, ◌+◌, ◌-◌, ◌%◌, ◌<◌, ◌≤◌, List, length, get_or, take, drop, sym, refl, ap, ◌∙◌, subst, arith}
+use Rattle.std.proofs.Common.{◌≡◌, ℕ, ◌+◌, ◌≤◌, length, sym, refl, ap, ◌∙◌, arith}
 use Rattle.std.proofs.lemmas.List.{take_rest, length-drop}
 use Rattle.std.proofs.lemmas.Result.{err_from_is_err_and}
 use Rattle.columns.specs.Reading.{denied, reached}
 use Rattle.parcels.specs.declared.draft.Place.{Place}
 use Rattle.denials.specs.declared.Denial.{Denial}
 use Rattle.denials.specs.declared.Denial.TheVariants.{Ends}
-use Rattle.parcels.specs.Reads.{placed, within, head_of, stepped, HeaderSays}
+use Rattle.parcels.specs.Reads.{placed, head_of, stepped}
 use Rattle.denials.specs.Said.{said}
 use Rattle.parcels.proofs.Reading.{head_short, head_cut, head_long, rest_says}
 use Rattle.parcels.proofs.items.head.Goals as goal

@@ -1,4 +1,4 @@
-use Rattle.std.proofs.Common.{◌≡◌, ℕ, length, take, sym, refl, ap, ◌∙◌, subst}
+use Rattle.std.proofs.Common.{ℕ, length, take, sym, ap, ◌∙◌, subst}
 use Rattle.std.proofs.lemmas.Result.{err_from_is_err_and}
 use Rattle.columns.specs.Reading.{denied}
 use Rattle.denials.specs.declared.Denial.{Denial}

@@ -1,4 +1,3 @@
-use Rattle.std.proofs.Common.{rules}
 use Rattle.parcels.proofs.parts.buffer_if.Goals as goal
 
 pub returns-then-wanted : goal.returns-then-wanted

@@ -1,11 +1,10 @@
-use Rattle.std.proofs.Common.{◌≡◌, ℕ, ◌+◌, ◌-◌, ◌^◌, ◌<◌, ◌≤◌, List, [], ◌∷◌, ◌++◌, length, take, drop, Some, Ok, Err, sym, refl, ap, ◌∙◌, arith}
-use Rattle.std.proofs.lemmas.List.{take_rest, length-drop, length_push}
+use Rattle.std.proofs.Common.{◌≡◌, ℕ, ◌+◌, ◌-◌, ◌^◌, Some, Ok, Err, sym, ap, ◌∙◌, arith}
+use Rattle.std.proofs.lemmas.List.{take_rest, length-drop}
 use Rattle.std.proofs.lemmas.Result.{err_from_is_err_and}
-use Rattle.columns.specs.Reading.{denied, reached}
-use Rattle.columns.specs.Sent.{brought}
+use Rattle.columns.specs.Reading.{denied}
 use Rattle.parcels.specs.declared.draft.Place.{Place}
 use Rattle.denials.specs.declared.Denial.{Denial}
-use Rattle.parcels.specs.Reads.{placed, stepped, name_in}
+use Rattle.parcels.specs.Reads.{name_in}
 use Rattle.denials.specs.Said.{said}
 use Rattle.parcels.proofs.Reading.{data_short, data_cut, data_named, data_brought, rest_length, named_told, named_fair, brought_told}
 use Rattle.parcels.proofs.parts.data_buffer.Goals as goal

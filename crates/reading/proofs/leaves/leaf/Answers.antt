@@ -1,4 +1,4 @@
-use Rattle.std.proofs.Common.{◌≡◌, sym, refl, ap, ◌∙◌}
+use Rattle.std.proofs.Common.{sym, ap, ◌∙◌}
 use Rattle.pools.specs.Store.{store}
 use Rattle.reading.specs.Inked.{wrote}
 use Rattle.reading.specs.Raw.{bit_text, leaf_text}

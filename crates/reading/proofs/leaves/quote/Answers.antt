@@ -1,10 +1,10 @@
-use Rattle.std.proofs.Common.{◌≡◌, ℕ, ◌+◌, ◌-◌, List, [], ◌∷◌, ◌++◌, length, get_or, codes, sym, ap, ◌∙◌, arith}
+use Rattle.std.proofs.Common.{◌≡◌, ℕ, ◌+◌, ◌-◌, List, ◌++◌, get_or, codes, sym, ap, ◌∙◌, arith}
 use Rattle.std.specs.List.{flat_map}
 use Rattle.columns.specs.Text.{hex_byte}
 use Rattle.columns.specs.Says.{slice}
 use Rattle.pools.specs.Used.{used}
 use Rattle.reading.specs.Inked.{wrote}
-use Rattle.reading.proofs.Pens.{wrote_none, wrote_full, step, last, piece}
+use Rattle.reading.proofs.Pens.{wrote_full, step, last, piece}
 use Rattle.reading.proofs.Slices.{slice_more}
 use Rattle.reading.proofs.leaves.quote.Goals as goal
 

@@ -1,4 +1,4 @@
-use Rattle.std.proofs.Common.{◌≡◌, ℕ, ◌+◌, ◌/◌, ◌%◌, ◌^◌, ◌<◌, ◌≤◌, List, length, get_or, take, sym, refl, ap, ◌∙◌, subst, ap₂, arith}
+use Rattle.std.proofs.Common.{◌≡◌, ◌+◌, ◌/◌, ◌%◌, ◌^◌, ◌<◌, length, get_or, take, sym, ap, ◌∙◌, subst, ap₂, arith}
 use Rattle.columns.specs.Says.{slice, view_text}
 use Rattle.pools.specs.declared.records.Part.{Part}
 use Rattle.pools.specs.Parts.{part_of}

@@ -1,13 +1,11 @@
 use mathlib.Core.Logic.{∥∥₁_elim, ∥∥₁_map}
 use native.Mathlib.Bridge.{le_prop}
-use Rattle.std.proofs.Common.{◌≡◌, ℕ, ◌<◌, ◌≤◌, List, length, Ok, Err, sym, refl, ap, ◌∙◌, subst, arith, ltb-true}
-use Rattle.columns.specs.Column.{Column, rows_of}
+use Rattle.std.proofs.Common.{◌≡◌, ℕ, ◌<◌, List, length, Ok, Err, sym, refl, ap, ◌∙◌, subst, arith, ltb-true}
 use Rattle.columns.specs.Checks.{denial}
 use Rattle.columns.specs.Ledger.{column_at, Answer}
 use Rattle.columns.specs.Limits.{most_levels}
 use Rattle.denials.specs.Said.{said}
-use Rattle.denials.specs.declared.Denial.{Denial}
-use Rattle.denials.specs.declared.Denial.TheVariants.{Text, NoColumn, Outside}
+use Rattle.denials.specs.declared.Denial.TheVariants.{NoColumn, Outside}
 use Rattle.pools.specs.declared.records.ColumnEntry.{ColumnEntry}
 use Rattle.pools.specs.Store.{store, no_column as no_entry, root_of}
 use Rattle.reading.specs.Readable.{RowReadable}

@@ -1,8 +1,8 @@
-use Rattle.std.proofs.Common.{◌≡◌, ℕ, ◌+◌, ◌-◌, ◌<◌, ◌≤◌, true, false, List, [], ◌∷◌, ◌++◌, length, sym, refl, ap, ◌∙◌, subst, arith}
+use Rattle.std.proofs.Common.{ℕ, ◌+◌, ◌-◌, ◌<◌, true, false, List, [], ◌∷◌, ◌++◌, length, sym, refl, ap, ◌∙◌, subst, arith}
 use mathlib.Core.Logic.{∥∥₁_elim, ∥∥₁_map}
 use native.Mathlib.Bridge.{le_prop}
 use Rattle.reading.proofs.Props.{mask_there_prop, leaf_in_prop, range_there_prop, ends_in_prop}
-use Rattle.columns.specs.Column.{Column, Columns, children, first, rest, nth, width}
+use Rattle.columns.specs.Column.{children, first, nth}
 use Rattle.pools.specs.declared.records.Part.{Part}
 use Rattle.pools.specs.declared.records.Node.{Node as Entry}
 use Rattle.pools.specs.Store.{store, node_entry}
@@ -12,10 +12,10 @@ use Rattle.pools.proofs.Reading.{stored_node, stored_children}
 use Rattle.reading.specs.Inked.{wrote}
 use Rattle.reading.specs.Raw.{LeafIn, leaf_text, commas_from}
 use Rattle.reading.specs.Readable.{RowReadable, RowsReadable, FieldsReadable, row_text, rows_text, fields_text}
-use Rattle.reading.proofs.Pens.{wrote_none, wrote_full, step, last, piece}
+use Rattle.reading.proofs.Pens.{wrote_full, step, last, piece}
 use Rattle.reading.proofs.Views.{few}
 use Rattle.reading.proofs.Walks.{comma_is, rows_left, rows_start, rows_next, rows_end, row_of_rows, texts_of, fields_start, field_first, fields_next, fields_end}
-use Rattle.reading.proofs.Speaks.{held, known, deep, shape_at, null_at, part_at, mask_there, null_text, leaf_there, leaf_row, range_at, range_there, rows_given, ranges_row, fields_given, fields_row, ends_stored, ends_there, two_children, run_given, runs_row}
+use Rattle.reading.proofs.Speaks.{held, known, deep, shape_at, null_at, part_at, mask_there, null_text, leaf_there, leaf_row, range_there, rows_given, ranges_row, fields_given, fields_row, ends_stored, ends_there, two_children, run_given, runs_row}
 use Rattle.reading.proofs.row.+put_fields_put_row_put_rows.Goals as goal
 
 -- A row of each of some columns.

@@ -1,11 +1,10 @@
-use Rattle.std.proofs.Common.{◌≡◌, ℕ, ◌<◌, List, length, take, sym, refl, ap, ◌∙◌, subst, arith, length-take, w8, Fits}
+use Rattle.std.proofs.Common.{ℕ, ◌<◌, length, sym, refl, ap, ◌∙◌, arith, length-take, w8, Fits}
 use mathlib.Core.Logic.{∥∥₁_elim, ∥∥₁_map}
 use native.Mathlib.Nat.{sub-zero}
 use Rattle.std.proofs.lemmas.List.{length-take-le}
 use Rattle.std.proofs.ByRecursion.{All-from_get_or}
 use Rattle.std.proofs.lemmas.Result.{err_from_is_err_and}
-use Rattle.columns.specs.Ledger.{Answer, added, filing, shelf_of, unless_denied}
-use Rattle.pools.specs.Used.{used}
+use Rattle.columns.specs.Ledger.{added, filing, shelf_of, unless_denied}
 use Rattle.pools.proofs.Keeping.{ready_after}
 use Rattle.denials.specs.Said.{said}
 use Rattle.shelf.specs.Stands.{lengths, ledger}

@@ -1,4 +1,4 @@
-use Rattle.std.proofs.Common.{◌≡◌, ◌++◌, sym, refl, ap, ◌∙◌}
+use Rattle.std.proofs.Common.{◌++◌, sym, ap, ◌∙◌}
 use Rattle.formats.specs.Kinds.{layout, offset_width}
 use Rattle.formats.specs.Spelled.{bytes_of}
 use Rattle.pools.specs.Parts.{buffers_in}

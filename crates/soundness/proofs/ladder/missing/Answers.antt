@@ -1,4 +1,4 @@
-use Rattle.std.proofs.Common.{◌≡◌, ℕ, ◌+◌, ◌-◌, ◌≤◌, length, sym, refl, ap, ◌∙◌, subst, arith}
+use Rattle.std.proofs.Common.{◌≡◌, ℕ, ◌+◌, ◌-◌, ◌≤◌, length, sym, refl, ap, subst, arith}
 use Rattle.parcels.specs.Lent.{data_size, place_of}
 use Rattle.parcels.proofs.Lents.{readable_at}
 use Rattle.soundness.specs.Ladder.{unshelved}

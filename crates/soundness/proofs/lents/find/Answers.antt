@@ -1,4 +1,4 @@
-use Rattle.std.proofs.Common.{◌≡◌, ℕ, sym, refl, ap, ◌∙◌, arith}
+use Rattle.std.proofs.Common.{◌∙◌}
 use Rattle.soundness.proofs.Finding.{in_places, found_readable, found_is}
 use Rattle.soundness.proofs.lents.find.Goals as goal
 

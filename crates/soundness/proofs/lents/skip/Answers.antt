@@ -1,4 +1,4 @@
-use Rattle.std.proofs.Common.{◌≡◌, ℕ, ◌+◌, ◌≤◌, length, sym, refl, ap, ◌∙◌, subst}
+use Rattle.std.proofs.Common.{ℕ, ◌+◌, ◌≤◌, length, sym, refl, ap, ◌∙◌, subst}
 use Rattle.parcels.specs.Lent.{data_size, place_of}
 use Rattle.parcels.proofs.Lents.{readable_at, place_more}
 use Rattle.soundness.proofs.lents.skip.Goals as goal

@@ -1,4 +1,4 @@
-use Rattle.std.proofs.Common.{◌≡◌, ℕ, ◌+◌, ◌<◌, ◌≤◌, length, get_or, refl, arith}
+use Rattle.std.proofs.Common.{refl, arith}
 use Rattle.std.proofs.ByRecursion.{All-get_or}
 use Rattle.parcels.specs.Reads.{Within}
 use Rattle.soundness.proofs.Finding.{no_part, source_none, source_shelved}

@@ -1,4 +1,4 @@
-use Rattle.std.proofs.Common.{◌≡◌, ℕ, sym, refl, ap, ◌∙◌, arith}
+use Rattle.std.proofs.Common.{refl}
 use Rattle.soundness.proofs.Falls.{null_more, null_found, null_none}
 use Rattle.soundness.proofs.masks.all_valid.Goals as goal
 

@@ -1,5 +1,4 @@
-use Rattle.std.proofs.Common.{◌≡◌, ℕ, ◌+◌, ◌-◌, ◌*◌, ◌^◌, ◌<◌, ◌≤◌, Bool, true, ◌&&◌, ltb, leb, sym, refl, ap, ◌∙◌, arith, rules}
-use Rattle.std.proofs.lemmas.Bool.{le-leb, lt-leb}
+use Rattle.std.proofs.Common.{◌+◌, sym, ◌∙◌}
 use Rattle.formats.specs.Spelled.{bytes_of}
 use Rattle.soundness.proofs.Falls.{rising_more, falls, rising_all}
 use Rattle.soundness.proofs.offsets.sound_offsets.Goals as goal

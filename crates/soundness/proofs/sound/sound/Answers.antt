@@ -1,4 +1,4 @@
-use Rattle.std.proofs.Common.{◌≡◌, ℕ, Bool, true, false, ◌&&◌, List, ◌++◌, sym, refl, ap, ◌∙◌}
+use Rattle.std.proofs.Common.{ℕ, Bool, true, false, ◌&&◌, List, ◌++◌, ap, ◌∙◌}
 use Rattle.columns.specs.Sent.{Data}
 use Rattle.columns.specs.SoundTests.{fills, role_sound}
 use Rattle.pools.specs.Parts.{buffers_in}

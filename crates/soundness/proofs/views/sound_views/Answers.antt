@@ -1,4 +1,4 @@
-use Rattle.std.proofs.Common.{◌≡◌, ℕ, sym, refl, ap, ◌∙◌}
+use Rattle.std.proofs.Common.{refl}
 use Rattle.soundness.specs.Sources.{sources, view_fine}
 use Rattle.soundness.proofs.Finding.{views_more, views_stop, views_all}
 use Rattle.soundness.proofs.views.sound_views.Goals as goal

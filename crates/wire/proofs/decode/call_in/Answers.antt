@@ -1,6 +1,6 @@
-use Rattle.std.proofs.Common.{◌≡◌, ◌-◌, length, take, drop, sym, refl, ap, ◌∙◌, subst, ap₂, rules}
+use Rattle.std.proofs.Common.{take, drop, ap, ◌∙◌, rules}
 use Rattle.std.proofs.lemmas.List.{take_rest}
-use Rattle.wire.specs.Calls.{file, u32_at, by_letter}
+use Rattle.wire.specs.Calls.{file}
 use Rattle.wire.proofs.decode.call_in.Goals as goal
 
 pub returns-in-F : goal.returns-in-F

@@ -1,4 +1,4 @@
-use Rattle.std.proofs.Common.{◌≡◌, ℕ, ◌+◌, ◌-◌, ◌≤◌, length, take, sym, ◌∙◌, subst, arith, rules}
+use Rattle.std.proofs.Common.{◌≡◌, ℕ, ◌-◌, ◌≤◌, length, take, sym, subst, arith, rules}
 use borrow.Rule.Slice.PartMut.{take_put}
 use Rattle.std.proofs.lemmas.List.{length-take-le}
 use Rattle.wire.specs.Calls.{OneCall, extent_of}

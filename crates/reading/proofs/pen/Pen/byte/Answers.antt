@@ -1,4 +1,4 @@
-use Rattle.std.proofs.Common.{◌≡◌, ◌/◌, ◌%◌, [], ◌∷◌, ap, ◌∙◌}
+use Rattle.std.proofs.Common.{◌/◌, ◌%◌, [], ◌∷◌, ap, ◌∙◌}
 use Rattle.columns.specs.Text.{hex_digit}
 use Rattle.reading.specs.Inked.{inked}
 use Rattle.reading.proofs.Pens.{step, last}
