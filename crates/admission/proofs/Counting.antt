@@ -5,7 +5,7 @@ use Rattle.columns.specs.Sent.{is_named, buffer_length}
 use Rattle.columns.specs.Pools.{plus, sum_of}
 use Rattle.parcels.specs.Lent.{data_size, place_of, readable, bytes_at, brought_from}
 use Rattle.parcels.proofs.Lents.{place_more, readable_at}
-use Rattle.std.specs.List.{AllByRecursion as All}
+use Rattle.std.specs.List.{AllByRecursion}
 use Rattle.std.proofs.ByRecursion.{All-weaker}
 use Rattle.columns.specs.Column.{bytes_for}
 use Rattle.formats.specs.declared.format.Width.{Width}
@@ -104,7 +104,7 @@ abbrev Low : ℕ → Type 0
 Low v = v ≤ 281474976710656
 
 eleven : (a b c d e f g h i j k : ℕ) → Low a → Low b → Low c → Low d → Low e → Low f → Low g → Low h → Low i → Low j → Low k
-    → All Low (a ∷ b ∷ c ∷ d ∷ e ∷ f ∷ g ∷ h ∷ i ∷ j ∷ k ∷ [])
+    → AllByRecursion Low (a ∷ b ∷ c ∷ d ∷ e ∷ f ∷ g ∷ h ∷ i ∷ j ∷ k ∷ [])
 eleven a b c d e f g h i j k p q r s t u v w x y z = (p, (q, (r, (s, (t, (u, (v, (w, (x, (y, (z, tt)))))))))))
 
 none_low : Low 0
@@ -126,16 +126,16 @@ module _ (base r t l new : ℕ) (hb : base < 140737490000000) (hr : r ≤ 104857
   base_low : Low base
   base_low = omega arith
 
-  width_low : (w : Width) → All Low (width_entries w base r new)
+  width_low : (w : Width) → AllByRecursion Low (width_entries w base r new)
   width_low One = eleven 0 1 (base + r) 0 0 0 0 0 0 new 0 none_low one_low (omega arith) none_low none_low none_low none_low none_low none_low few none_low
   width_low Two = eleven 0 1 base r 0 0 0 0 0 new 0 none_low one_low base_low rows_low none_low none_low none_low none_low none_low few none_low
   width_low Four = eleven 0 1 base 0 r 0 0 0 0 new 0 none_low one_low base_low none_low rows_low none_low none_low none_low none_low few none_low
   width_low Eight = eleven 0 1 base 0 0 r 0 0 0 new 0 none_low one_low base_low none_low none_low rows_low none_low none_low none_low few none_low
 
-  plain_low : All Low (0 ∷ 1 ∷ base ∷ 0 ∷ 0 ∷ 0 ∷ 0 ∷ 0 ∷ 0 ∷ new ∷ 0 ∷ [])
+  plain_low : AllByRecursion Low (0 ∷ 1 ∷ base ∷ 0 ∷ 0 ∷ 0 ∷ 0 ∷ 0 ∷ 0 ∷ new ∷ 0 ∷ [])
   plain_low = eleven 0 1 base 0 0 0 0 0 0 new 0 none_low one_low base_low none_low none_low none_low none_low none_low none_low few none_low
 
-  pub kind_low : (K : Kind) → All (λ v. v ≤ 281474976710656) (kind_entries K base r t l new)
+  pub kind_low : (K : Kind) → AllByRecursion (λ v. v ≤ 281474976710656) (kind_entries K base r t l new)
   kind_low (Primitive w) = width_low w
   kind_low Boolean = eleven 0 1 (base + bytes_for r) 0 0 0 0 0 0 new 0 none_low one_low (omega arith) none_low none_low none_low none_low none_low none_low few none_low
   kind_low (Text wide) = eleven 0 1 (base + t) 0 0 0 (r + 1) 0 0 new 0 none_low one_low (omega arith) none_low none_low none_low offsets_low none_low none_low few none_low
@@ -147,11 +147,11 @@ module _ (base r t l new : ℕ) (hb : base < 140737490000000) (hr : r ≤ 104857
   kind_low (FixedList size) = plain_low
 
 -- the bound of a sum
-pub plus_most : (m n : ℕ) (a b : Entries) → All (λ v. v ≤ m) (listed a) → All (λ v. v ≤ n) (listed b) → All (λ v. v ≤ m + n) (plus (listed a) (listed b))
+pub plus_most : (m n : ℕ) (a b : Entries) → AllByRecursion (λ v. v ≤ m) (listed a) → AllByRecursion (λ v. v ≤ n) (listed b) → AllByRecursion (λ v. v ≤ m + n) (plus (listed a) (listed b))
 plus_most m n a b (p₁, (p₂, (p₃, (p₄, (p₅, (p₆, (p₇, (p₈, (p₉, (p₁₀, (p₁₁, _))))))))))) (q₁, (q₂, (q₃, (q₄, (q₅, (q₆, (q₇, (q₈, (q₉, (q₁₀, (q₁₁, _))))))))))) =
     (omega arith, (omega arith, (omega arith, (omega arith, (omega arith, (omega arith, (omega arith, (omega arith, (omega arith, (omega arith, (omega arith, tt)))))))))))
 
-pub all_below : (m n : ℕ) (xs : List ℕ) → m ≤ n → All (λ v. v ≤ m) xs → All (λ v. v ≤ n) xs
+pub all_below : (m n : ℕ) (xs : List ℕ) → m ≤ n → AllByRecursion (λ v. v ≤ m) xs → AllByRecursion (λ v. v ≤ n) xs
 all_below m n xs h a = All-weaker (λ v. v ≤ m) (λ v. v ≤ n) (λ x p. omega arith) xs a
 
 -- a draft is added

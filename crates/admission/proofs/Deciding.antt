@@ -1,6 +1,6 @@
 use Rattle.std.proofs.Common.{◌≡◌, ℕ, List, [], ◌∷◌, ◌++◌, length, drop, Some, None, sym, refl, ap, ◌∙◌, arith}
 use mathlib.Core.Option as math
-use Rattle.std.specs.List.{AllByRecursion as All}
+use Rattle.std.specs.List.{AllByRecursion}
 use Rattle.std.proofs.lemmas.List.{length-map}
 use Rattle.columns.specs.Checks.{Denial, denial, Check, denied_or, first_denial}
 use Rattle.columns.specs.Ledger.{Shelf, file_denial}
@@ -45,7 +45,7 @@ module _ (parcel bytes : List ℕ) (buffers : List Part) (D : List Draft) (O : O
   abbrev checks : List Check
   checks = checks_of parcel (length buffers) shelved 0 D
 
-  pub needed_is : (needs : Entries) → All (Drafted parcel) D → listed needs ≡ plus one_column (drafts_need parcel D) → listed needs ≡ filed
+  pub needed_is : (needs : Entries) → AllByRecursion (Drafted parcel) D → listed needs ≡ plus one_column (drafts_need parcel D) → listed needs ≡ filed
   needed_is needs g e = e ∙ needs_are parcel D shelved O.last.buffers O.f.found g O.traced.listed O.traced.held
 
   module _ (long used : Entries) (ends : List ℕ) (s : Shelf) (S : Stands ends s bytes buffers long used) where

@@ -1,7 +1,7 @@
 -- What drafts need is what the column that they outline needs.
 use Rattle.std.proofs.Common.{◌≡◌, ℕ, zero, suc, ◌+◌, ◌-◌, ◌<◌, List, [], ◌∷◌, ◌++◌, map, length, get_or, drop, Some, None, Option, sym, refl, ap, ◌∙◌, arith}
 use mathlib.Core.Option as math
-use Rattle.std.specs.List.{AllByRecursion as All}
+use Rattle.std.specs.List.{AllByRecursion}
 use Rattle.std.proofs.lemmas.List.{append_assoc, append-nil, length-append, length-map, map-append, get_or-map, drop_at}
 use Rattle.columns.specs.Format.{offset_bytes}
 use Rattle.columns.specs.Kinds.{Kind}
@@ -215,7 +215,7 @@ new_of parcel [] = []
 new_of parcel (d ∷ D) = brought_from parcel d.parts.lent.start d.parts.lent.len ++ new_of parcel D
 
 module _ (parcel : List ℕ) where
-  pub held_new : (D : List Draft) (bs : List (List ℕ)) (n : ℕ) → All (Drafted parcel) D → held_of parcel bs n D ≡ bs ++ new_of parcel D
+  pub held_new : (D : List Draft) (bs : List (List ℕ)) (n : ℕ) → AllByRecursion (Drafted parcel) D → held_of parcel bs n D ≡ bs ++ new_of parcel D
   unfolding held_of new_of
   held_new [] bs n g = sym (append-nil bs)
   held_new (d ∷ D) bs n g =
@@ -226,7 +226,7 @@ module _ (parcel : List ℕ) where
   abbrev extras : List (Node × ℕ) → List (List ℕ) → Entries
   extras nodes new = extra (sum_of (map format_at nodes) + sum_of (map length new)) (length new)
 
-  drafts_sum : (D : List Draft) (bs : List (List ℕ)) (n k : ℕ) → k < 11 → All (Drafted parcel) D
+  drafts_sum : (D : List Draft) (bs : List (List ℕ)) (n k : ℕ) → k < 11 → AllByRecursion (Drafted parcel) D
       → get_or (drafts_need parcel D) k 0 ≡ sum_of (map (need_at k) (nodes_of parcel bs n D)) + get_or (extras (nodes_of parcel bs n D) (new_of parcel D)) k 0
   unfolding drafts_need nodes_of new_of
   drafts_sum [] bs n k h g = sym (extra_none k) ∙ (let e : get_or (extra 0 0) k 0 ≡ 0 + get_or (extra 0 0) k 0 = omega arith in e)
@@ -248,7 +248,7 @@ module _ (parcel : List ℕ) where
       plus_at (draft_entries parcel d) (drafts_need parcel D) k h ∙ omega (arith, own, more, both)
 
   -- what the drafts need is what the column needs
-  pub needs_are : (D : List Draft) (shelved last : List (List ℕ)) (c : Column) → All (Drafted parcel) D → preorder c ≡ nodes_of parcel shelved 0 D → last ≡ held_of parcel shelved 0 D
+  pub needs_are : (D : List Draft) (shelved last : List (List ℕ)) (c : Column) → AllByRecursion (Drafted parcel) D → preorder c ≡ nodes_of parcel shelved 0 D → last ≡ held_of parcel shelved 0 D
       → plus one_column (drafts_need parcel D) ≡ filed_needs c (drop (length shelved) last)
   needs_are D shelved last c g p q =
       let new : List (List ℕ) = drop (length shelved) last in

@@ -1,6 +1,6 @@
 -- What stands for the shelf, and what an examined parcel is.
 use Rattle.std.specs.Prelude.{◌≡◌, ℕ, List, length, drop}
-use Rattle.std.specs.List.{AllByRecursion as All}
+use Rattle.std.specs.List.{AllByRecursion}
 use Rattle.columns.specs.Ledger.{Shelf}
 use Rattle.columns.specs.Pools.{of_pool, filed_needs}
 use Rattle.pools.specs.declared.records.Part.{Part}
@@ -19,5 +19,5 @@ pub record Stands (lengths : List ℕ) (s : Shelf) (bytes : List ℕ) (buffers :
 -- The drafts outline the parcel's column, their parts lie in the parcel, and the needs are those of the column.
 pub record Examined (shelved : List (List ℕ)) (parcel : List ℕ) (drafts : List Draft) (needs : Entries) : Type 0 where
   pub outlined : Outlined shelved parcel drafts
-  pub drafted : All (Drafted parcel) drafts
+  pub drafted : AllByRecursion (Drafted parcel) drafts
   pub needed : listed needs ≡ filed_needs outlined.f.found (drop (length shelved) outlined.last.buffers)

@@ -1,6 +1,6 @@
 // All that is decided of a parcel before anything is stored.
 ghost use Rattle.std.specs.Prelude.{◌≡◌, ℕ, ◌≤◌, List, length, take, Ok, Err};
-ghost use Rattle.std.specs.List.{AllByRecursion as All};
+ghost use Rattle.std.specs.List.{AllByRecursion};
 ghost use Rattle.columns.specs.Ledger.{Shelf, file_denial};
 ghost use Rattle.columns.specs.Parcel.{parcel_read};
 ghost use Rattle.pools.specs.Parts.{buffers_in};
@@ -28,7 +28,7 @@ pub fn examine(
     marks: Entries,
     drafts: &mut [Draft; 256],
 ) -> Result<Accepted, Denial>
-    requires { All (Within bytes.now) buffers.now }
+    requires { AllByRecursion (Within bytes.now) buffers.now }
     ensures answers { (ends : List ℕ) (s : Shelf) → Stands ends s bytes.now buffers.now lengths marks
         → denial_in result ≡ file_denial ends s (parcel_read s.buffers parcel.now) }
     ensures drafted { elim result [

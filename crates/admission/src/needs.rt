@@ -1,6 +1,6 @@
 // What a parcel needs of the pools.
 ghost use Rattle.std.specs.Prelude.{◌≡◌, ℕ, ◌+◌, ◌-◌, ◌*◌, ◌^◌, ◌<◌, ◌≤◌, true, List, length};
-ghost use Rattle.std.specs.List.{AllByRecursion as All};
+ghost use Rattle.std.specs.List.{AllByRecursion};
 ghost use Rattle.columns.specs.Pools.{plus, one_column};
 ghost use Rattle.parcels.specs.Lent.{data_size, readable};
 ghost use Rattle.parcels.specs.Drafts.{Drafted};
@@ -120,7 +120,7 @@ fn mask_bytes(mask: Option<Part>, rows: usize) -> usize
 fn draft_needs(parcel: &[u8], d: Draft) -> Entries
     requires { Drafted parcel.now d }
     ensures is { listed result ≡ draft_entries parcel.now d }
-    ensures low { All (λ v. v ≤ 281474976710656) (listed result) }
+    ensures low { AllByRecursion (λ v. v ≤ 281474976710656) (listed result) }
 {
     let rows = d.head.rows as usize;
     let (new, bytes) = brought(parcel, d.parts.lent);
@@ -129,7 +129,7 @@ fn draft_needs(parcel: &[u8], d: Draft) -> Entries
 }
 
 fn add(a: Entries, b: Entries) -> Entries
-    requires { (All (λ v. v ≤ 4611686018427387904) (listed a)) × (All (λ v. v ≤ 4611686018427387904) (listed b)) }
+    requires { (AllByRecursion (λ v. v ≤ 4611686018427387904) (listed a)) × (AllByRecursion (λ v. v ≤ 4611686018427387904) (listed b)) }
     ensures { listed result ≡ plus (listed a) (listed b) }
 {
     Entries {
@@ -149,7 +149,7 @@ fn add(a: Entries, b: Entries) -> Entries
 
 // What the drafts of a parcel need, and one column.
 pub(crate) fn needs(parcel: &[u8], drafts: &[Draft]) -> Entries
-    requires { (All (Drafted parcel.now) drafts.now) × (length drafts.now ≤ 256) }
+    requires { (AllByRecursion (Drafted parcel.now) drafts.now) × (length drafts.now ≤ 256) }
     ensures { listed result ≡ plus one_column (drafts_need parcel.now drafts.now) }
 {
     let mut total = Entries {

@@ -6,7 +6,7 @@ use lib.IntN.{sub_ℕ}
 use lib.Signed.{le_z, le_z_yes}
 use mir.Syntax.{Width, w128}
 use mir.Val.{hbits, sel, bits as width-bits, bytes as width-bytes}
-use Rattle.std.specs.List.{flat_map, AllByRecursion as All}
+use Rattle.std.specs.List.{flat_map, AllByRecursion}
 use Rattle.std.specs.Int.Digits.{AllBelowBase}
 use Rattle.std.proofs.lemmas.List.{take_at, drop_at, take-take, take_all, drop-drop, drop-take, nil_from_length, reverse-append, reverse-reverse, get_or-reverse}
 use Rattle.std.proofs.ByRecursion.{All-append, All-take, All-drop, All-map, All-weaker, All-get_or}
@@ -113,9 +113,9 @@ one_higher bytes b =
 reverse_cons : {X : Type 0} (x : X) (xs : List X) → reverse (x ∷ xs) ≡ reverse xs ++ x ∷ []
 reverse_cons x xs = reverse-append (x ∷ []) xs
 
-all_reverse : {X : Type 0} (P : X → Type 0) (xs : List X) → All P xs → All P (reverse xs)
+all_reverse : {X : Type 0} (P : X → Type 0) (xs : List X) → AllByRecursion P xs → AllByRecursion P (reverse xs)
 all_reverse P [] a = tt
-all_reverse P (x ∷ xs) (p, a) = subst (All P) (sym (reverse_cons x xs)) (All-append P (reverse xs) (x ∷ []) (all_reverse P xs a) (p, tt))
+all_reverse P (x ∷ xs) (p, a) = subst (AllByRecursion P) (sym (reverse_cons x xs)) (All-append P (reverse xs) (x ∷ []) (all_reverse P xs a) (p, tt))
 
 other_way : (bytes : List ℕ) → big_endian bytes ≡ little_endian (reverse bytes)
 other_way [] = refl
@@ -150,7 +150,7 @@ module _ {X : Type 0} (w : ℕ) (write : X → List ℕ) (read : List ℕ → X)
   abbrev row_at : List ℕ → ℕ → X
   row_at bytes i = read (slice bytes (w * i) w)
 
-  written_length : (xs : List X) → All (λ x. length (write x) ≡ w) xs → length (flat_map write xs) ≡ w * length xs
+  written_length : (xs : List X) → AllByRecursion (λ x. length (write x) ≡ w) xs → length (flat_map write xs) ≡ w * length xs
   written_length [] a = sym (mul-zero w)
   written_length (x ∷ xs) (p, a) = let e = written_length xs a in let l = length-append (write x) (flat_map write xs) in let m : w * suc (length xs) ≡ w + w * length xs = omega arith in omega arith
 
@@ -163,7 +163,7 @@ module _ {X : Type 0} (w : ℕ) (write : X → List ℕ) (read : List ℕ → X)
       next : (j : ℕ) → w * (1 + j) ≡ w + w * (0 + j)
       next j = omega arith
 
-  rows_read : (xs : List X) → All (λ x. (length (write x) ≡ w) × (read (write x) ≡ x)) xs → map (row_at (flat_map write xs)) (span 0 (length xs)) ≡ xs
+  rows_read : (xs : List X) → AllByRecursion (λ x. (length (write x) ≡ w) × (read (write x) ≡ x)) xs → map (row_at (flat_map write xs)) (span 0 (length xs)) ≡ xs
   rows_read [] a = refl
   rows_read (x ∷ xs) (p, a) =
       ap₂ {C = List X} (λ y ys. y ∷ ys)
@@ -180,7 +180,7 @@ module _ {X : Type 0} (w : ℕ) (write : X → List ℕ) (read : List ℕ → X)
       (ap (flat_map write) (shift bytes n) ∙ rows_written n (drop w bytes) (rest_length w (w * n) bytes l u) (rest_bytes w (w * n) bytes l u) back)
       ∙ take-append-drop w bytes
 
-all_every : {X : Type 0} (P : X → Type 0) → ((x : X) → P x) → (xs : List X) → All P xs
+all_every : {X : Type 0} (P : X → Type 0) → ((x : X) → P x) → (xs : List X) → AllByRecursion P xs
 all_every P p [] = tt
 all_every P p (x ∷ xs) = (p x, all_every P p xs)
 
@@ -399,11 +399,11 @@ in_fits bytes n u =
     subst ViewIn16Bytes (sym (view_read bytes n u))
     (view_fits (little_endian (take 8 bytes)) (little_endian (drop 8 bytes)) (first_below 8 8 bytes n u) (rest_below 8 8 bytes n u))
 
-all_span : (P : ℕ → Type 0) (a n : ℕ) → ((i : ℕ) → i < a + n → P i) → All P (span a n)
+all_span : (P : ℕ → Type 0) (a n : ℕ) → ((i : ℕ) → i < a + n → P i) → AllByRecursion P (span a n)
 all_span P a zero p = tt
 all_span P a (suc n) p = (p a (omega arith), all_span P (suc a) n (λ i h. p i (omega arith)))
 
-views_fit : (n : ℕ) (bytes : List ℕ) → length bytes ≡ 16 * n → AllBelowBase 256 bytes → All ViewIn16Bytes (views_in n bytes)
+views_fit : (n : ℕ) (bytes : List ℕ) → length bytes ≡ 16 * n → AllBelowBase 256 bytes → AllByRecursion ViewIn16Bytes (views_in n bytes)
 views_fit n bytes e u =
     All-map ViewIn16Bytes (λ i. view_in (slice bytes (16 * i) 16)) (span 0 n)
     (all_span (λ i. ViewIn16Bytes (view_in (slice bytes (16 * i) 16))) 0 n

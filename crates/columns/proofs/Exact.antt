@@ -2,7 +2,7 @@
 use Rattle.std.proofs.Common.{◌≡◌, ℕ, suc, ◌+◌, ◌-◌, ◌*◌, ◌^◌, ◌<◌, ◌≤◌, Bool, true, ◌&&◌, eqb, ltb, leb, List, [], ◌∷◌, length, get_or, refl, subst, add-one, arith, pow_pos}
 use mathlib.Core.Option.{Option, some, none}
 use Rattle.std.proofs.lemmas.Bool.{and_parts, leb-true, eqb-true, not-true, and_from, lt-ltb, le-leb, eq-eqb, not_from_false}
-use Rattle.std.specs.List.{AllByRecursion as All}
+use Rattle.std.specs.List.{AllByRecursion}
 use Rattle.std.proofs.ByRecursion.{All-get_or}
 use Rattle.columns.specs.Kinds.{Kind, primitive, boolean, strings, views, lists, maps, structs, run_ended, fixed_lists, unknown, width_of}
 use Rattle.columns.specs.Format.{offset_bytes, highest}
@@ -23,7 +23,7 @@ rises : (low : ℕ) (os : List ℕ) → ((i : ℕ) → suc i < length os → get
 rises low [] h l = refl
 rises low (o ∷ os) h l = and_from (leb low o) (never_fall o os) (le-leb low o (l (omega arith))) (rises o os (λ i m. h (suc i) (omega arith)) (λ m. h 0 (omega arith)))
 
-offsets_pass : (w : ℕ) (os : List ℕ) (rows bound : ℕ) → Offsets os rows bound → All (λ o. o ≤ highest w) os → offsets_sound w os bound ≡ true
+offsets_pass : (w : ℕ) (os : List ℕ) (rows bound : ℕ) → Offsets os rows bound → AllByRecursion (λ o. o ≤ highest w) os → offsets_sound w os bound ≡ true
 offsets_pass w os rows bound o f =
     let fill = o.fill in
     let last : last_of 0 os ≡ get_or os rows 0 = last_at os rows fill in

@@ -5,7 +5,7 @@ use lib.ListN.{length-map}
 use Rattle.std.proofs.lemmas.Bool.{and_parts, leb-true, ltb-true, lt-ltb, le-ltb, cases_lt, cond-true, cond-false}
 use Rattle.std.proofs.ByRecursion.{All-from_get_or}
 use Rattle.std.proofs.lemmas.List.{get_or_append_left, get_or_push, length_push, get_or-map, get_or_past, length-append}
-use Rattle.std.specs.List.{AllByRecursion as All}
+use Rattle.std.specs.List.{AllByRecursion}
 use Rattle.columns.specs.Column.{Column, nothing, rows_of, at}
 use Rattle.columns.specs.Says.{span, says}
 use Rattle.columns.specs.Text.{text}
@@ -164,7 +164,7 @@ first_all (L then l) = cond-true (ltb (length (lines L)) (length (lines L ++ l �
 filed_denial : (lengths : Entries) (s : Shelf) (f : Found) (p : Place) → first_denial (file_checks lengths s f p) ≡ none → first_denial f.checks ≡ none
 filed_denial lengths s f p e = none_denied f.checks (passed_left f.checks _ (passed (file_checks lengths s f p) e))
 
-all_parts : {X : Type 0} (P : X → Type 0) (xs ys : List X) → All P (xs ++ ys) → All P xs × All P ys
+all_parts : {X : Type 0} (P : X → Type 0) (xs ys : List X) → AllByRecursion P (xs ++ ys) → AllByRecursion P xs × AllByRecursion P ys
 all_parts P [] ys h = (tt, h)
 all_parts P (x ∷ xs) ys h = let r = all_parts P xs ys h.1 in ((h.0, r.0), r.1)
 
@@ -176,7 +176,7 @@ record Known (lengths : Entries) (L : Ledger) : Type 0 where
   all_sound : AllSound (shelf_of L)
   all_listed : AllListed (shelf_of L)
   all_limited : AllLimited (shelf_of L)
-  of_bytes : All OfBytes (lines L) → AllWithin (shelf_of L) × All Bytes (shelf_of L).buffers
+  of_bytes : AllByRecursion OfBytes (lines L) → AllWithin (shelf_of L) × AllByRecursion Bytes (shelf_of L).buffers
   made_by : (j : ℕ) (js : List ℕ) (ps : List Pair) → Interleaved L j js ps → (j < length (lines L)) × MadeBy (shelf_of L) j js ps
   filed_by : (j : ℕ) (parcel : List ℕ) → j < length (lines L) → get_or (lines L) j (filing []) ≡ filing parcel → SaysParcel (shelf_of (first_lines j L)).buffers (shelf_of L).buffers parcel (column_at (shelf_of L) j)
 
@@ -187,7 +187,7 @@ record AddsWell (s t : Shelf) (l : Line) : Type 0 where
   listed : AllListed s → ListsShelved (length t.buffers) grows.new
   limits : WithinLimits grows.new
   widths : OfBytes l → AllWithin s → WithinWidths grows.new
-  bytes : OfBytes l → All Bytes s.buffers → All Bytes t.buffers
+  bytes : OfBytes l → AllByRecursion Bytes s.buffers → AllByRecursion Bytes t.buffers
 
 module _ (decoded : ParcelIsSound) (lengths : Entries) where
   -- each line was accepted on the shelf that it found
@@ -344,7 +344,7 @@ module _ (decoded : ParcelIsSound) (lengths : Entries) where
           limited : AllLimited (put s l)
           limited = each_column WithinLimits K.all_limited G.limits
 
-          bytes : All OfBytes (lines L ++ l ∷ []) → AllWithin (put s l) × All Bytes (put s l).buffers
+          bytes : AllByRecursion OfBytes (lines L ++ l ∷ []) → AllWithin (put s l) × AllByRecursion Bytes (put s l).buffers
           bytes b =
               let p = all_parts OfBytes (lines L) (l ∷ []) b in
               let old = K.of_bytes p.0 in

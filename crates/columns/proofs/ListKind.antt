@@ -2,7 +2,7 @@
 use Rattle.std.proofs.Common.{◌≡◌, ℕ, zero, suc, ◌+◌, ◌-◌, ◌*◌, ◌<◌, ◌≤◌, ltb, ◌↔◌, List, [], ◌∷◌, ◌++◌, map, length, get_or, take, drop, sym, refl, ap, ◌∙◌, subst, ap₂, inl, inr, add_assoc, mul-le-mul_right, add-one, arith, length-drop}
 use mathlib.Core.Option.{Option, some, none}
 use lib.ListN.{length-map}
-use Rattle.std.specs.List.{AllByRecursion as All}
+use Rattle.std.specs.List.{AllByRecursion}
 use Rattle.std.proofs.lemmas.List.{get_or-map, get_or-take, get_or-drop, take-append-le, drop-append-le}
 use Rattle.std.proofs.ByRecursion.{All-get_or}
 use Rattle.std.proofs.lemmas.Bool.{cases_lt, lt-ltb, le-ltb, cond-true, cond-false}
@@ -154,7 +154,7 @@ module _ (Ls : List Ranged) (ps : List Pair) where
       }
 
   -- place m is row j of pair k's range
-  inside_child : All ListKind Ls → Inside Ls ps → (m : ℕ) → m < length (child_rows Ls ps) →
+  inside_child : AllByRecursion ListKind Ls → Inside Ls ps → (m : ℕ) → m < length (child_rows Ls ps) →
       ((pair (child_rows Ls ps) m).0 < length Ls) × ((pair (child_rows Ls ps) m).1 < (source Ls (pair (child_rows Ls ps) m).0).child)
   inside_child kinds inside m h =
       let f = laid_out.none_between m h in

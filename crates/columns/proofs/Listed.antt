@@ -1,7 +1,7 @@
 -- A made column lists shelved buffers only, where its sources do.
 use Rattle.std.proofs.Common.{◌≡◌, ℕ, suc, ◌<◌, Bool, true, false, cond, eqb, List, [], ◌∷◌, map, get_or, sym, refl, subst, arith}
 use lib.ListN.{get_or-map}
-use Rattle.std.specs.List.{AllByRecursion as All}
+use Rattle.std.specs.List.{AllByRecursion}
 use Rattle.std.proofs.ByRecursion.{All-get_or}
 use Rattle.columns.specs.Kinds.{Kind, primitive, boolean, strings, views, lists, maps, structs, run_ended, fixed_lists, unknown, is_list}
 use Rattle.columns.specs.Column.{View, short, long, Column, Columns, column, end, ◌&◌, node, children, nth, first, rest, width, nothing, kind, at, view_at}
@@ -16,19 +16,19 @@ use Rattle.columns.proofs.Rows.{kind_sound, inside_runs}
 use Rattle.columns.proofs.Made.{either_kids, kids_inside}
 use Rattle.columns.proofs.Widths.{all_joined}
 
-all_without : (P : ℕ → Type 0) (b : ℕ) (xs : List ℕ) → All P xs → All P (without b xs)
+all_without : (P : ℕ → Type 0) (b : ℕ) (xs : List ℕ) → AllByRecursion P xs → AllByRecursion P (without b xs)
 all_without P b [] h = tt
 all_without P b (x ∷ xs) h = go (eqb b x) (all_without P b xs h.1)
   where
-    go : (t : Bool) → All P (without b xs) → All P (cond t (without b xs) (x ∷ without b xs))
+    go : (t : Bool) → AllByRecursion P (without b xs) → AllByRecursion P (cond t (without b xs) (x ∷ without b xs))
     go true r = r
     go false r = (h.0, r)
 
-all_once : (P : ℕ → Type 0) (xs : List ℕ) → All P xs → All P (once xs)
+all_once : (P : ℕ → Type 0) (xs : List ℕ) → AllByRecursion P xs → AllByRecursion P (once xs)
 all_once P [] h = tt
 all_once P (x ∷ xs) h = (h.0, all_without P x (once xs) (all_once P xs h.1))
 
-claim_below : (D : ℕ → List ℕ) (many : ℕ) (bs : List ℕ) (v : View) → ViewSound D bs v → All (λ b. b < many) bs → All (λ b. b < many) (claim bs v)
+claim_below : (D : ℕ → List ℕ) (many : ℕ) (bs : List ℕ) (v : View) → ViewSound D bs v → AllByRecursion (λ b. b < many) bs → AllByRecursion (λ b. b < many) (claim bs v)
 claim_below D many bs (short len inline) s h = tt
 claim_below D many bs (long len prefix position offset) s h = (All-get_or (λ b. b < many) bs position 0 s.1 h, tt)
 
@@ -37,7 +37,7 @@ module _ (many : ℕ) where
   unfolding ListsShelved
   lists_nothing = (tt, tt)
 
-  own_list : (c : Column) → ListsShelved many c → All (λ b. b < many) (node c).buffers
+  own_list : (c : Column) → ListsShelved many c → AllByRecursion (λ b. b < many) (node c).buffers
   unfolding ListsShelved
   own_list (column n cs) h = h.0
 
@@ -62,7 +62,7 @@ module _ (many : ℕ) where
   sources_rest kids F s = subst (EachListsShelved many) (sym (get_or-map rest kids s end)) (rest_lists (get_or kids s end) (F s))
 
   made_list : (D : ℕ → List ℕ) (c : Column) (S : List Column) (ps : List Pair) → Accepted D c S ps → ((s : ℕ) → ListsShelved many (at S s)) →
-      (K : Kind) → kind (node c) ≡ K → All (λ b. b < many) (made_buffers K S ps).buffers
+      (K : Kind) → kind (node c) ≡ K → AllByRecursion (λ b. b < many) (made_buffers K S ps).buffers
   made_list D c S ps A F (primitive w) e = tt
   made_list D c S ps A F boolean e = tt
   made_list D c S ps A F strings e = tt

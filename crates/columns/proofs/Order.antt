@@ -1,7 +1,7 @@
 -- A call's denial is that of the first of its checks that fails.
 use Rattle.std.proofs.Common.{◌≡◌, ℕ, zero, suc, ◌+◌, ◌-◌, ◌%◌, ◌^◌, Bool, true, false, cond, eqb, leb, ◌↔◌, List, [], ◌∷◌, ◌++◌, length, get_or, take, drop, sym, refl, ap, ◌∙◌, subst, arith}
 use mathlib.Core.Option.{Option, some, none}
-use Rattle.std.specs.List.{AllByRecursion as All}
+use Rattle.std.specs.List.{AllByRecursion}
 use Rattle.columns.specs.Kinds.{Kind, is_known}
 use Rattle.columns.specs.Format.{kind_of}
 use Rattle.columns.specs.Column.{nothing}
@@ -18,11 +18,11 @@ use Rattle.columns.specs.Order.{Spot, Stretch, ◌and_then◌, no_stretch, item_
 use Rattle.columns.specs.Denials.{waiting_checks, call_checks, Passes, FirstToFail, FirstOf, DenialsAreFirst}
 
 -- The first denial of a list.
-all_none : (cs : List Check) → All Passes cs → first_denial cs ≡ none
+all_none : (cs : List Check) → AllByRecursion Passes cs → first_denial cs ≡ none
 all_none [] h = refl
 all_none (c ∷ cs) h = rw h.0 (all_none cs h.1)
 
-denial_after : (cs ds : List Check) → All Passes cs → first_denial (cs ++ ds) ≡ first_denial ds
+denial_after : (cs ds : List Check) → AllByRecursion Passes cs → first_denial (cs ++ ds) ≡ first_denial ds
 denial_after [] ds h = refl
 denial_after (c ∷ cs) ds h = rw h.0 (denial_after cs ds h.1)
 
@@ -34,7 +34,7 @@ denial_before (c ∷ cs) ds d e = go c.1 e (denial_before cs ds d)
     go none e more = more e
     go (some x) e more = e
 
-all_both : (cs ds : List Check) → All Passes cs → All Passes ds → All Passes (cs ++ ds)
+all_both : (cs ds : List Check) → AllByRecursion Passes cs → AllByRecursion Passes ds → AllByRecursion Passes (cs ++ ds)
 all_both [] ds h k = k
 all_both (c ∷ cs) ds h k = (h.0, all_both cs ds h.1 k)
 
@@ -58,7 +58,7 @@ named_first : (cs : List Check) (d : Denial) → FirstToFail cs d → first_deni
 named_first cs d f =
     ap first_denial f.in_order ∙ denial_after f.before ((f.number, some f.detail) ∷ f.after) f.before_pass ∙ ap some (sym f.its_denial)
 
-none_all : (cs : List Check) → first_denial cs ≡ none → All Passes cs
+none_all : (cs : List Check) → first_denial cs ≡ none → AllByRecursion Passes cs
 none_all [] e = tt
 none_all ((n, none) ∷ cs) e = (refl, none_all cs e)
 none_all ((n, some x) ∷ cs) e = absurd (let z : ◌≡◌ {A = ℕ} 0 1 = cc in omega arith)
@@ -69,12 +69,12 @@ spot_of p = record { passed = p.passed; ahead = p.ahead; nodes = p.nodes }
 
 abbrev Along : {A : Type 0} → (A → Type 0) → Outcome A → List Check × Spot → Type 0
 Along P (denied d) w = first_denial w.0 ≡ some d
-Along P (reached a q) w = All Passes w.0 × (spot_of q ≡ w.1) × P a
+Along P (reached a q) w = AllByRecursion Passes w.0 × (spot_of q ≡ w.1) × P a
 
 abbrev Any : {A : Type 0} → A → Type 0
 Any a = Unit {0}
 
-continues : {A : Type 0} (P : A → Type 0) (o : Outcome A) (cs : List Check) (w : List Check × Spot) → All Passes cs → Along P o w → Along P o (cs ++ w.0, w.1)
+continues : {A : Type 0} (P : A → Type 0) (o : Outcome A) (cs : List Check) (w : List Check × Spot) → AllByRecursion Passes cs → Along P o w → Along P o (cs ++ w.0, w.1)
 continues P (denied d) cs w h a = denial_after cs w.0 h ∙ a
 continues P (reached a q) cs w h k = (all_both cs w.0 h k.0, k.1, k.2)
 
@@ -270,7 +270,7 @@ find_first test (y ∷ xs) x e = go (test y) refl e (find_first test xs x)
     go true a e more = let r = more e in (suc r.0, next_of test y xs r.0 x a r.1)
     go false a e more = let s : y ≡ x = cc in (0, subst (λ z. FirstOf test (y ∷ xs) 0 z) s (first_here test y xs a))
 
-skip_first : {X : Type 0} (test : X → Bool) (before after : List X) (x : X) → All (λ y. test y ≡ true) before → test x ≡ false → first_failing test (before ++ x ∷ after) ≡ some x
+skip_first : {X : Type 0} (test : X → Bool) (before after : List X) (x : X) → AllByRecursion (λ y. test y ≡ true) before → test x ≡ false → first_failing test (before ++ x ∷ after) ≡ some x
 skip_first test [] after x h e = rw e
 skip_first test (y ∷ before) after x h e = rw h.0 (skip_first test before after x h.1 e)
 
@@ -283,7 +283,7 @@ find_place test n (y ∷ xs) m e = go (test y) refl e (find_place test (suc n) x
     go true a e more = let r = more e in (suc r.0, (let z = r.1 in omega arith), (r.2.0, next_of test y xs r.0 r.2.0 a r.2.1))
     go false a e more = let s : n ≡ m = cc in (0, omega arith, (y, first_here test y xs a))
 
-skip_place : {X : Type 0} (test : X → Bool) (n : ℕ) (before after : List X) (x : X) → All (λ y. test y ≡ true) before → test x ≡ false → failing_place test n (before ++ x ∷ after) ≡ some (n + length before)
+skip_place : {X : Type 0} (test : X → Bool) (n : ℕ) (before after : List X) (x : X) → AllByRecursion (λ y. test y ≡ true) before → test x ≡ false → failing_place test n (before ++ x ∷ after) ≡ some (n + length before)
 skip_place test n [] after x h e = rw e (ap some (omega arith))
 skip_place test n (y ∷ before) after x h e = rw h.0 (skip_place test (suc n) before after x h.1 e ∙ ap some (omega arith))
 

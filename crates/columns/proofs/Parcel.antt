@@ -2,7 +2,7 @@
 use Rattle.std.proofs.Common.{◌≡◌, ℕ, zero, suc, ◌+◌, ◌-◌, ◌*◌, ◌^◌, ◌<◌, ◌≤◌, Bool, true, false, cond, not, ◌&&◌, eqb, ltb, leb, List, [], ◌∷◌, map, length, get_or, drop, codes, sym, refl, ap, ◌∙◌, subst, arith, length-drop, length-take}
 use mathlib.Core.Option.{none}
 use lib.ListN.{length-replicate}
-use Rattle.std.specs.List.{flat_map, AllByRecursion as All}
+use Rattle.std.specs.List.{flat_map, AllByRecursion}
 use Rattle.std.proofs.lemmas.Bool.{and_parts, ltb-true, leb-true, eqb-true, not-true}
 use Rattle.std.proofs.ByRecursion.{All-drop, All-weaker}
 use Rattle.columns.specs.Kinds.{Kind, primitive, boolean, strings, views, lists, maps, structs, run_ended, fixed_lists, unknown, is_known, width_of}
@@ -140,7 +140,7 @@ role_holds D map_entries h s kids a m e H =
 role_holds D free h s kids a m e H = tt
 
 -- The numbers of a node that is read from bytes.
-every_of : {X : Type 0} (P : X → Type 0) (f : ℕ → X) (a n : ℕ) → ((i : ℕ) → P (f i)) → All P (map f (span a n))
+every_of : {X : Type 0} (P : X → Type 0) (f : ℕ → X) (a n : ℕ) → ((i : ℕ) → P (f i)) → AllByRecursion P (map f (span a n))
 every_of P f a zero h = tt
 every_of P f a (suc n) h = (h a, every_of P f (suc a) n h)
 
@@ -157,7 +157,7 @@ view_in_fits v h =
     (value_below 4 v 0 h) (value_below 4 v 1 h) (value_below 4 v 2 h) (value_below 4 v 3 h) (All-drop (λ b. b < 256) 4 v h)
 
 module _ (h : Head) (s : Sent) (bytes : Bytes s.body × Bytes s.text) where
-  values_fit : (K : Kind) → All (λ v. v < 256 ^ width_of K) (contents K h s).values
+  values_fit : (K : Kind) → AllByRecursion (λ v. v < 256 ^ width_of K) (contents K h s).values
   values_fit (primitive w) = every_of (λ v. v < 256 ^ w) (value_at w s.body) 0 h.rows (λ i. value_below w s.body i bytes.0)
   values_fit boolean = tt
   values_fit strings = tt
@@ -181,7 +181,7 @@ module _ (h : Head) (s : Sent) (bytes : Bytes s.body × Bytes s.text) where
   text_fits (fixed_lists N) = tt
   text_fits unknown = tt
 
-  views_fit : (K : Kind) → All ViewFits (contents K h s).views
+  views_fit : (K : Kind) → AllByRecursion ViewFits (contents K h s).views
   views_fit (primitive w) = tt
   views_fit boolean = tt
   views_fit strings = tt
@@ -312,27 +312,27 @@ abbrev MustRead : Bool → Place → Unit {0} → Place → Type 0
 MustRead b p u q = Steps (Unit {0}) (λ a. Unit {0}) p u q × (b ≡ true)
 
 abbrev SentRead : Head → Place → Sent → Place → Type 0
-SentRead h p s q = Steps (Unit {0}) (λ s. Bytes s.body × Bytes s.text) p s q × (h.masked ≡ false → s.mask ≡ none) × All (BroughtBelow (length q.buffers)) s.sent
+SentRead h p s q = Steps (Unit {0}) (λ s. Bytes s.body × Bytes s.text) p s q × (h.masked ≡ false → s.mask ≡ none) × AllByRecursion (BroughtBelow (length q.buffers)) s.sent
 
 sent_yields : (h : Head) (p : Place) → Yields (buffers_of (kind_of h.format) h p) (SentRead h p)
 sent_yields h p =
     let o : Outcome Sent = buffers_of (kind_of h.format) h p in
     let S : Sent → Place → Type 0 = Steps (Unit {0}) (λ s. Bytes s.body × Bytes s.text) p in
     let M : Sent → Place → Type 0 = λ s q. h.masked ≡ false → s.mask ≡ none in
-    let B : Sent → Place → Type 0 = λ s q. All (BroughtBelow (length q.buffers)) s.sent in
+    let B : Sent → Place → Type 0 = λ s q. AllByRecursion (BroughtBelow (length q.buffers)) s.sent in
     weaker o (λ s q. S s q × (M s q × B s q)) (SentRead h p) (λ s q g. (g.0, g.1.0, g.1.1))
     (both o S (λ s q. M s q × B s q) (plain_buffers (kind_of h.format) h p) (both o M B (sent_mask (kind_of h.format) h p) (sent_below (kind_of h.format) h p)))
 
 -- what a node lists was brought, or named and shelved before
-all_listed : (before many : ℕ) → before ≤ many → (ds : List Data) → All (BroughtBelow many) ds → first_failing (λ b. ltb b before) (named_before before ds) ≡ none → All (λ b. b < many) (map number_of ds)
+all_listed : (before many : ℕ) → before ≤ many → (ds : List Data) → AllByRecursion (BroughtBelow many) ds → first_failing (λ b. ltb b before) (named_before before ds) ≡ none → AllByRecursion (λ b. b < many) (map number_of ds)
 all_listed before many l [] h e = tt
 all_listed before many l (brought b ∷ ds) h e = (h.0, all_listed before many l ds h.1 e)
 all_listed before many l (named b ∷ ds) h e =
     let t = on_none (ltb b before) (first_failing (λ b. ltb b before) (named_before before ds)) b e in
     ((let z = ltb-true b before t.0 in omega arith), all_listed before many l ds h.1 t.1)
 
-listed_below : (before many : ℕ) → before ≤ many → (h : Head) (s : Sent) → All (BroughtBelow many) s.sent → first_failing (λ b. ltb b before) (named_before before s.sent) ≡ none →
-    (K : Kind) → All (λ b. b < many) (contents K h s).buffers
+listed_below : (before many : ℕ) → before ≤ many → (h : Head) (s : Sent) → AllByRecursion (BroughtBelow many) s.sent → first_failing (λ b. ltb b before) (named_before before s.sent) ≡ none →
+    (K : Kind) → AllByRecursion (λ b. b < many) (contents K h s).buffers
 listed_below before many l h s a e (primitive w) = tt
 listed_below before many l h s a e boolean = tt
 listed_below before many l h s a e strings = tt

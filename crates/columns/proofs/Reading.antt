@@ -2,7 +2,7 @@
 use Rattle.std.proofs.Common.{◌≡◌, ℕ, suc, ◌+◌, ◌-◌, ◌*◌, ◌%◌, ◌^◌, ◌<◌, ◌≤◌, Bool, true, false, cond, leb, List, [], ◌∷◌, ◌++◌, length, get_or, take, drop, sym, refl, ap, ◌∙◌, append_assoc, append-nil, mul-le-mul_right, arith, length-append, length-drop, length-take}
 use mathlib.Core.Option.{Option, some, none}
 use native.Mathlib.Nat.{pow-le-pow_right, pow-succ'}
-use Rattle.std.specs.List.{AllByRecursion as All}
+use Rattle.std.specs.List.{AllByRecursion}
 use Rattle.std.proofs.ByRecursion.{All-take, All-drop, All-push}
 use Rattle.columns.specs.Kinds.{Kind}
 use Rattle.columns.specs.Says.{slice, span}
@@ -71,7 +71,7 @@ adds_on p q r x y =
 
 -- Bytes stay ahead, and bytes are brought.
 abbrev pub OfBytes : Place → Place → Type 0
-OfBytes p q = Bytes q.ahead × (All Bytes p.buffers → All Bytes q.buffers)
+OfBytes p q = Bytes q.ahead × (AllByRecursion Bytes p.buffers → AllByRecursion Bytes q.buffers)
 
 -- A reading that begins no node. Given P, of a parcel of bytes it gives a value with Q.
 abbrev pub Steps : {A : Type 0} → Type 0 → (A → Type 0) → Place → A → Place → Type 0
@@ -212,22 +212,22 @@ data_below p =
     go b false q a =
         (adds_on p q (record { passed = q.passed; ahead = q.ahead; nodes = q.nodes; buffers = q.buffers ++ drop 4 b ∷ [] }) a (record { more = drop 4 b ∷ []; buffers_are = refl }), (let l = length-append q.buffers (drop 4 b ∷ []) in omega arith))
 
-each_below : (xs : List ℕ) (p : Place) → Yields (each_of (λ (i : ℕ). data_buffer) xs p) (λ ds q. Adds p q × All (BroughtBelow (length q.buffers)) ds)
+each_below : (xs : List ℕ) (p : Place) → Yields (each_of (λ (i : ℕ). data_buffer) xs p) (λ ds q. Adds p q × AllByRecursion (BroughtBelow (length q.buffers)) ds)
 each_below [] p = (adds_none p p refl, tt)
 each_below (x ∷ xs) p =
     goes_on (data_buffer p) (λ a. each_of (λ (i : ℕ). data_buffer) xs >>= λ as'. give (a ∷ as')) (λ d q. Adds p q × BroughtBelow (length q.buffers) d) _ (data_below p) (λ d p₁ g.
-    goes_on (each_of (λ (i : ℕ). data_buffer) xs p₁) (λ as'. give (d ∷ as')) (λ ds q. Adds p₁ q × All (BroughtBelow (length q.buffers)) ds) _ (each_below xs p₁) (λ ds q h.
+    goes_on (each_of (λ (i : ℕ). data_buffer) xs p₁) (λ as'. give (d ∷ as')) (λ ds q. Adds p₁ q × AllByRecursion (BroughtBelow (length q.buffers)) ds) _ (each_below xs p₁) (λ ds q h.
     (adds_on p p₁ q g.0 h.0, (below_longer (length p₁.buffers) (length q.buffers) (adds_longer p₁ q h.0) d g.1, h.1))))
 
-datas_below : (b : Bool) (p : Place) → Yields (data_buffers b p) (λ ds q. All (BroughtBelow (length q.buffers)) ds)
+datas_below : (b : Bool) (p : Place) → Yields (data_buffers b p) (λ ds q. AllByRecursion (BroughtBelow (length q.buffers)) ds)
 datas_below true p =
     goes_on (item (λ bytes. 2) p) (λ c. each_of (λ i. data_buffer) (span 0 (big_endian c))) (λ c q. Unit {0}) _ (anything (item (λ bytes. 2) p)) (λ c q u.
-    weaker (each_of (λ (i : ℕ). data_buffer) (span 0 (big_endian c)) q) (λ ds r. Adds q r × All (BroughtBelow (length r.buffers)) ds) (λ ds r. All (BroughtBelow (length r.buffers)) ds) (λ ds r g. g.1) (each_below (span 0 (big_endian c)) q))
+    weaker (each_of (λ (i : ℕ). data_buffer) (span 0 (big_endian c)) q) (λ ds r. Adds q r × AllByRecursion (BroughtBelow (length r.buffers)) ds) (λ ds r. AllByRecursion (BroughtBelow (length r.buffers)) ds) (λ ds r g. g.1) (each_below (span 0 (big_endian c)) q))
 datas_below false p = tt
 
-pub sent_below : (K : Kind) (h : Head) (p : Place) → Yields (buffers_of K h p) (λ s q. All (BroughtBelow (length q.buffers)) s.sent)
+pub sent_below : (K : Kind) (h : Head) (p : Place) → Yields (buffers_of K h p) (λ s q. AllByRecursion (BroughtBelow (length q.buffers)) s.sent)
 sent_below K h p =
     goes_on (mask_if h.masked p) _ (λ m q. Unit {0}) _ (anything (mask_if h.masked p)) (λ m p₁ u.
     goes_on (buffer_if (sends K).0 p₁) _ (λ b q. Unit {0}) _ (anything (buffer_if (sends K).0 p₁)) (λ b p₂ u.
     goes_on (buffer_if (sends K).1 p₂) _ (λ b q. Unit {0}) _ (anything (buffer_if (sends K).1 p₂)) (λ t p₃ u.
-    goes_on (data_buffers (sends K).2 p₃) _ (λ ds q. All (BroughtBelow (length q.buffers)) ds) _ (datas_below (sends K).2 p₃) (λ ds p₄ g. g))))
+    goes_on (data_buffers (sends K).2 p₃) _ (λ ds q. AllByRecursion (BroughtBelow (length q.buffers)) ds) _ (datas_below (sends K).2 p₃) (λ ds p₄ g. g))))

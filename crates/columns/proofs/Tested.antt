@@ -3,7 +3,7 @@ use Rattle.std.proofs.Common.{◌≡◌, ℕ, zero, suc, ◌+◌, ◌-◌, ◌*�
 use mathlib.Core.Option.{Option, some, none}
 use lib.ListN.{length-map}
 use Rattle.std.proofs.lemmas.Bool.{and_parts, ltb-true, ltb-false, leb-true, eqb-true}
-use Rattle.std.specs.List.{AllByRecursion as All}
+use Rattle.std.specs.List.{AllByRecursion}
 use Rattle.std.proofs.ByRecursion.{All-from_get_or}
 use Rattle.columns.specs.Format.{highest}
 use Rattle.columns.specs.Column.{short, long, bytes_for, Columns, end, ◌&◌, rows_of}
@@ -60,7 +60,7 @@ rising os rows h (suc k) i e = let a = h i (omega arith) in let b = rising os ro
 pub offsets_rise : (os : List ℕ) (rows bound : ℕ) → Offsets os rows bound → (i : ℕ) → i < length os → get_or os i 0 ≤ get_or os rows 0
 offsets_rise os rows bound o i l = rising os rows o.never_fall (rows - i) i (let f = o.fill in omega arith)
 
-pub offsets_fit : (w : ℕ) (os : List ℕ) (rows bound : ℕ) → length os ≡ rows + 1 → offsets_sound w os bound ≡ true → All (λ o. o ≤ highest w) os
+pub offsets_fit : (w : ℕ) (os : List ℕ) (rows bound : ℕ) → length os ≡ rows + 1 → offsets_sound w os bound ≡ true → AllByRecursion (λ o. o ≤ highest w) os
 offsets_fit w os rows bound l e =
     let o : Offsets os rows bound = offsets_hold w os rows bound l e in
     let p = and_parts (never_fall 0 os && leb (last_of 0 os) bound) (ltb (last_of 0 os) (2 ^ (8 * w - 1))) e in

@@ -1,7 +1,7 @@
 -- The numbers of a made column fit where its sources' do.
 use Rattle.std.proofs.Common.{◌≡◌, ℕ, zero, suc, ◌^◌, ◌<◌, ◌≤◌, Bool, true, false, cond, eqb, List, [], ◌∷◌, map, length, get_or, sym, refl, ◌∙◌, subst, arith, length-append}
 use lib.ListN.{length-map}
-use Rattle.std.specs.List.{flat_map, AllByRecursion as All}
+use Rattle.std.specs.List.{flat_map, AllByRecursion}
 use Rattle.std.proofs.ByRecursion.{All-from_get_or, All-append, All-map, All-weaker}
 use Rattle.columns.specs.Kinds.{width_of, Kind, primitive, boolean, strings, views, lists, maps, structs, run_ended, fixed_lists, unknown, is_list}
 use Rattle.columns.specs.Format.{highest, ends_format}
@@ -21,15 +21,15 @@ use Rattle.columns.proofs.Tree.{at_children, child_accepted, rest_kids, at_nth}
 use Rattle.columns.proofs.Rows.{source_kind, inside_runs, made_climbs}
 use Rattle.columns.proofs.Made.{either_kids, first_runs, kids_inside}
 
-all_at : {X : Type 0} (P : X → Type 0) (xs : List X) (i : ℕ) (d : X) → P d → All P xs → P (get_or xs i d)
+all_at : {X : Type 0} (P : X → Type 0) (xs : List X) (i : ℕ) (d : X) → P d → AllByRecursion P xs → P (get_or xs i d)
 all_at P [] i d h a = h
 all_at P (x ∷ xs) zero d h a = a.0
 all_at P (x ∷ xs) (suc i) d h a = all_at P xs i d h a.1
 
-all_taken : {X Y : Type 0} (P : Y → Type 0) (f : X → Y) (xs : List X) (d : X) → ((k : ℕ) → k < length xs → P (f (get_or xs k d))) → All P (map f xs)
+all_taken : {X Y : Type 0} (P : Y → Type 0) (f : X → Y) (xs : List X) (d : X) → ((k : ℕ) → k < length xs → P (f (get_or xs k d))) → AllByRecursion P (map f xs)
 all_taken P f xs d h = All-map P f xs (All-from_get_or (λ x. P (f x)) xs d h)
 
-pub all_joined : {X Y : Type 0} (P : Y → Type 0) (f : X → List Y) (xs : List X) (d : X) → ((k : ℕ) → k < length xs → All P (f (get_or xs k d))) → All P (flat_map f xs)
+pub all_joined : {X Y : Type 0} (P : Y → Type 0) (f : X → List Y) (xs : List X) (d : X) → ((k : ℕ) → k < length xs → AllByRecursion P (f (get_or xs k d))) → AllByRecursion P (flat_map f xs)
 all_joined P f [] d h = tt
 all_joined P f (x ∷ xs) d h = All-append P (f x) (flat_map f xs) (h 0 (omega arith)) (all_joined P f xs d (λ k l. h (suc k) (omega arith)))
 
@@ -100,12 +100,12 @@ module _ (D : ℕ → List ℕ) (c : Column) (S : List Column) (ps : List Pair) 
   source : (s : ℕ) → NodeFits (node (at S s))
   source s = within_node (at S s) (F s)
 
-  made_values : (K : Kind) → kind (node c) ≡ K → All (λ v. v < 256 ^ width_of K) (made_buffers K S ps).values
+  made_values : (K : Kind) → kind (node c) ≡ K → AllByRecursion (λ v. v < 256 ^ width_of K) (made_buffers K S ps).values
   made_values (primitive w) e =
       all_taken (λ v. v < 256 ^ w) (λ (p : Pair). get_or (node (at S p.0)).values p.1 0) ps (0, 0) (λ k l.
       let p : Pair = get_or ps k (0, 0) in
       all_at (λ v. v < 256 ^ w) (node (at S p.0)).values p.1 0 (power_positive w)
-      (subst (λ J. All (λ v. v < 256 ^ width_of J) (node (at S p.0)).values) (source_kind D c S ps A p.0 (A.source_known k l) ∙ e) (source p.0).values_fit))
+      (subst (λ J. AllByRecursion (λ v. v < 256 ^ width_of J) (node (at S p.0)).values) (source_kind D c S ps A p.0 (A.source_known k l) ∙ e) (source p.0).values_fit))
   made_values boolean e = tt
   made_values strings e = tt
   made_values views e = tt
@@ -130,7 +130,7 @@ module _ (D : ℕ → List ℕ) (c : Column) (S : List Column) (ps : List Pair) 
   made_text (fixed_lists N) = tt
   made_text unknown = tt
 
-  made_views : (K : Kind) → length ps ≤ most_rows → All ViewFits (made_buffers K S ps).views
+  made_views : (K : Kind) → length ps ≤ most_rows → AllByRecursion ViewFits (made_buffers K S ps).views
   made_views (primitive w) l = tt
   made_views boolean l = tt
   made_views strings l = tt
@@ -159,7 +159,7 @@ module _ (D : ℕ → List ℕ) (c : Column) (S : List Column) (ps : List Pair) 
   }
 
 -- Run ends are at most the number of rows.
-ends_most : (low : ℕ) (es : List ℕ) (top : ℕ) → Climbs low es top → (low ≤ top) × All (λ e. e ≤ top) es
+ends_most : (low : ℕ) (es : List ℕ) (top : ℕ) → Climbs low es top → (low ≤ top) × AllByRecursion (λ e. e ≤ top) es
 ends_most low [] top h = (omega arith, tt)
 ends_most low (e ∷ es) top h = let r = ends_most e es top h.1 in ((let a = r.0 in let b = h.0 in omega arith), (r.0, r.1))
 

@@ -3,7 +3,7 @@ use Rattle.std.specs.Prelude.{◌≡◌, ℕ, zero, suc, ◌+◌, ◌-◌, ◌*�
 use Rattle.std.proofs.Math.IntN.{sub_ℕ}
 use Rattle.std.specs.Int.{Width}
 use mir.Val.{to_z, bytes as width-bytes}
-use Rattle.std.specs.List.{flat_map, AllByRecursion as All}
+use Rattle.std.specs.List.{flat_map, AllByRecursion}
 use Rattle.std.specs.Int.Digits.{AllBelowBase}
 use Rattle.columns.specs.Column.{View, short, long, view_of, bytes_for}
 use Rattle.columns.specs.Says.{span, slice}
@@ -120,9 +120,9 @@ pub record ViewsReadBack : Type 0 where
   -- 16 bytes a view, one after another
   pub read_back : (v : View) → ViewIn16Bytes v → view_in (view_bytes v) ≡ v
   pub write_back : (bytes : List ℕ) → length bytes ≡ 16 → AllBelowBase 256 bytes → view_bytes (view_in bytes) ≡ bytes
-  pub views_read : (vs : List View) → All ViewIn16Bytes vs → views_in (length vs) (flat_map view_bytes vs) ≡ vs
+  pub views_read : (vs : List View) → AllByRecursion ViewIn16Bytes vs → views_in (length vs) (flat_map view_bytes vs) ≡ vs
   pub views_written : (n : ℕ) (bytes : List ℕ) → length bytes ≡ 16 * n → AllBelowBase 256 bytes → flat_map view_bytes (views_in n bytes) ≡ bytes
-  pub views_fit : (n : ℕ) (bytes : List ℕ) → length bytes ≡ 16 * n → AllBelowBase 256 bytes → All ViewIn16Bytes (views_in n bytes)
+  pub views_fit : (n : ℕ) (bytes : List ℕ) → length bytes ≡ 16 * n → AllBelowBase 256 bytes → AllByRecursion ViewIn16Bytes (views_in n bytes)
 
 -- Worked out.
 pub record ByteExamples : Type 0 where

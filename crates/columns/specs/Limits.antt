@@ -1,6 +1,6 @@
 -- The limits of a column: rows at a node, nodes, depth, and how high its signed numbers go.
 use Rattle.std.specs.Prelude.{ℕ, suc, ◌+◌, ◌≤◌, max}
-use Rattle.std.specs.List.{AllByRecursion as All}
+use Rattle.std.specs.List.{AllByRecursion}
 use Rattle.columns.specs.Kinds.{width_of, Kind, primitive, boolean, strings, views, lists, maps, structs, run_ended, fixed_lists, unknown}
 use Rattle.columns.specs.Format.{highest, offset_bytes}
 use Rattle.columns.specs.Column.{Node, Column, Columns, column, end, ◌&◌, node, first, kind}
@@ -33,7 +33,7 @@ unfoldable mutual
 
 -- Offsets are signed, and so are run ends, of which the last is the number of rows.
 abbrev pub OffsetsFit : Node → Type 0
-OffsetsFit n = All (λ o. o ≤ highest (offset_bytes n.format)) n.offsets
+OffsetsFit n = AllByRecursion (λ o. o ≤ highest (offset_bytes n.format)) n.offsets
 
 abbrev pub SignedFit : Kind → Node → Columns → Type 0
 SignedFit (primitive w) n cs = Unit {0}

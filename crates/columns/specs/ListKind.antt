@@ -1,7 +1,7 @@
 -- What a list kind means, and gathering for every list kind.
 use Rattle.std.specs.Prelude.{◌≡◌, ℕ, ◌+◌, ◌-◌, ◌*◌, ◌<◌, ◌≤◌, cond, ◌↔◌, List, [], ◌∷◌, ◌++◌, map, length, nat_lt, slice_index, slice_index_or}
 use Rattle.std.proofs.Math.Option.{Option, some, none}
-use Rattle.std.specs.List.{AllByRecursion as All}
+use Rattle.std.specs.List.{AllByRecursion}
 use Rattle.columns.specs.Kinds.{Kind, lists, maps, fixed_lists}
 use Rattle.columns.specs.Column.{Node, Column, Columns, node, children, first, rows_of}
 use Rattle.columns.specs.Says.{slice}
@@ -110,7 +110,7 @@ pub record GatheredFrom (Ls : List Ranged) (ps : List Pair) (G : Ranged) : Type 
 pub record GatheringKeepsRanges : Type 0 where
   pub laid_out : (Ls : List Ranged) (ps : List Pair) → Laid_out Ls ps
   -- every gathered pair names a known source, and a row of its child
-  pub inside_child : (Ls : List Ranged) (ps : List Pair) → All ListKind Ls → Inside Ls ps → (m : ℕ) → m < length (child_rows Ls ps) →
+  pub inside_child : (Ls : List Ranged) (ps : List Pair) → AllByRecursion ListKind Ls → Inside Ls ps → (m : ℕ) → m < length (child_rows Ls ps) →
       ((pair (child_rows Ls ps) m).0 < length Ls) × ((pair (child_rows Ls ps) m).1 < (source Ls (pair (child_rows Ls ps) m).0).child)
   -- what the pairs made is again of a list kind, if not too long; from fixed-size lists it is a fixed-size list
   pub gathered_is : (Ls : List Ranged) (ps : List Pair) → GatheredFrom Ls ps (gathered_list Ls ps)

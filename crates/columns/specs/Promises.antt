@@ -1,7 +1,7 @@
 -- What filing and interleaving promise: sound columns, and rows that follow the pairs.
 use Rattle.std.specs.Prelude.{◌≡◌, ℕ, ◌<◌, ◌≤◌, List, [], ◌++◌, length, slice_index_or}
 use Rattle.std.proofs.Math.Option.{none}
-use Rattle.std.specs.List.{AllByRecursion as All}
+use Rattle.std.specs.List.{AllByRecursion}
 use Rattle.columns.specs.Column.{Column, rows_of, at}
 use Rattle.columns.specs.Says.{says}
 use Rattle.columns.specs.Gathering.{Pair, pair}
@@ -23,7 +23,7 @@ pub record WellRead (shelved : List (List ℕ)) (parcel : List ℕ) (f : Found) 
   pub lists_shelved : ListsShelved (length p.buffers) f.found
   pub within_limits : WithinLimits f.found
   pub within_widths : Bytes parcel → WithinWidths f.found
-  pub buffers_of_bytes : Bytes parcel → All Bytes shelved → All Bytes p.buffers
+  pub buffers_of_bytes : Bytes parcel → AllByRecursion Bytes shelved → AllByRecursion Bytes p.buffers
 
 abbrev pub ParcelIsSound : Type 0
 ParcelIsSound =

@@ -1,7 +1,7 @@
 -- What holds of every run: after any list of calls on a fresh shelf.
 use Rattle.std.specs.Prelude.{◌≡◌, ℕ, ◌+◌, ◌<◌, ◌≤◌, false, List, [], ◌++◌, map, length, get_or, slice_index, slice_index_or}
 use Rattle.std.proofs.Math.Option.{Option, some, none}
-use Rattle.std.specs.List.{AllByRecursion as All}
+use Rattle.std.specs.List.{AllByRecursion}
 use Rattle.columns.specs.Column.{Column, rows_of, at}
 use Rattle.columns.specs.Says.{span, says}
 use Rattle.columns.specs.Text.{text}
@@ -78,15 +78,15 @@ pub record Kept (lengths : Entries) (L : Ledger) : Type 0 where
   pub says_its_parcel : (j : ℕ) (parcel : List ℕ) → j < length (lines L) → slice_index_or (lines L) j (filing []) ≡ filing parcel →
       SaysParcel (shelf_of (first_lines j L)).buffers (shelf_of L).buffers parcel (column_in L j)
   pub is_made : (j : ℕ) (js : List ℕ) (ps : List Pair) → Interleaved L j js ps → column_in L j ≡ interleave (columns_in L js) ps
-  pub of_earlier : (j : ℕ) (js : List ℕ) (ps : List Pair) → Interleaved L j js ps → (j < length (lines L)) × All (λ i. i < j) js
+  pub of_earlier : (j : ℕ) (js : List ℕ) (ps : List Pair) → Interleaved L j js ps → (j < length (lines L)) × AllByRecursion (λ i. i < j) js
   pub as_many_rows : (j : ℕ) (js : List ℕ) (ps : List Pair) → Interleaved L j js ps → rows_of (column_in L j) ≡ length ps
   pub line_is_answer : (l : Line) → line_denial lengths (shelf_of L) l ≡ none → answer lengths (shelf_of L) (adds l) ≡ added (length (lines L))
   -- every column is sound, lists shelved buffers and is within the limits; its numbers fit if every parcel was one of bytes
   pub sound : (j : ℕ) → j < length (lines L) → Sound (buffer_in L) (column_in L j)
   pub lists_shelved : (j : ℕ) → j < length (lines L) → ListsShelved (length (shelf_of L).buffers) (column_in L j)
   pub within_limits : (j : ℕ) → j < length (lines L) → WithinLimits (column_in L j)
-  pub within_widths : All OfBytes (lines L) → (j : ℕ) → j < length (lines L) → WithinWidths (column_in L j)
-  pub buffers_of_bytes : All OfBytes (lines L) → All Bytes (shelf_of L).buffers
+  pub within_widths : AllByRecursion OfBytes (lines L) → (j : ℕ) → j < length (lines L) → WithinWidths (column_in L j)
+  pub buffers_of_bytes : AllByRecursion OfBytes (lines L) → AllByRecursion Bytes (shelf_of L).buffers
   -- no mark passes its pool, and the slip's is back; pool 1 has an entry for each column, and pool 10 one for each data buffer
   pub marks_within : WithinPools lengths (shelf_of L).marks
   pub slip_back : of_pool (shelf_of L).marks 11 ≡ 0

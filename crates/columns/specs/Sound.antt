@@ -1,7 +1,7 @@
 -- When a column is sound: at every node, in null rows too.
 use Rattle.std.specs.Prelude.{◌≡◌, ℕ, ◌+◌, ◌*◌, ◌<◌, ◌≤◌, Bool, true, false, List, [], ◌∷◌, length, slice_index, slice_index_or}
 use Rattle.std.proofs.Math.Option.{some, none}
-use Rattle.std.specs.List.{AllByRecursion as All}
+use Rattle.std.specs.List.{AllByRecursion}
 use Rattle.columns.specs.Kinds.{Kind, primitive, boolean, strings, views, lists, maps, structs, run_ended, fixed_lists, unknown}
 use Rattle.columns.specs.Format.{ends_format}
 use Rattle.columns.specs.Column.{View, short, long, bytes_for, Node, Column, Columns, column, end, ◌&◌, node, children, first, nth, width, kind, rows_of, view_at}
@@ -81,7 +81,7 @@ module _ (data_buffer : ℕ → List ℕ) where
 -- Every buffer that a node lists is shelved, used or not, there being so many.
 unfoldable mutual
   pub ListsShelved : (many : ℕ) → Column → Type 0
-  ListsShelved many (column n cs) = All (λ b. b < many) n.buffers × EachListsShelved many cs
+  ListsShelved many (column n cs) = AllByRecursion (λ b. b < many) n.buffers × EachListsShelved many cs
 
   pub EachListsShelved : (many : ℕ) → Columns → Type 0
   EachListsShelved many end = Unit {0}

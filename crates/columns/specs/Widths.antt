@@ -1,11 +1,11 @@
 -- Every number fits where it is stored.
 use Rattle.std.specs.Prelude.{ℕ, ◌^◌, ◌<◌, List, length}
-use Rattle.std.specs.List.{AllByRecursion as All}
+use Rattle.std.specs.List.{AllByRecursion}
 use Rattle.columns.specs.Kinds.{width_of}
 use Rattle.columns.specs.Column.{View, short, long, Node, Column, Columns, column, end, ◌&◌, kind}
 
 abbrev pub Bytes : List ℕ → Type 0
-Bytes bs = All (λ b. b < 256) bs
+Bytes bs = AllByRecursion (λ b. b < 256) bs
 
 -- A view's length, prefix, position and offset are 32 bits each.
 abbrev pub ViewFits : View → Type 0
@@ -16,9 +16,9 @@ ViewFits (long len prefix position offset) = (len < 2 ^ 32) × (prefix < 2 ^ 32)
 pub record NodeFits (n : Node) : Type 0 where
   pub format_fits : Bytes n.format × (length n.format < 2 ^ 7)
   pub label_fits : n.label < 2 ^ 16
-  pub values_fit : All (λ v. v < 256 ^ width_of (kind n)) n.values
+  pub values_fit : AllByRecursion (λ v. v < 256 ^ width_of (kind n)) n.values
   pub text_fits : Bytes n.text
-  pub views_fit : All ViewFits n.views
+  pub views_fit : AllByRecursion ViewFits n.views
 
 unfoldable mutual
   pub WithinWidths : Column → Type 0

@@ -2,7 +2,7 @@
 use Rattle.std.proofs.Common.{◌≡◌, ℕ, ◌+◌, ◌≤◌, List, [], ◌∷◌, ◌++◌, map, length, drop, sym, refl, ap, ◌∙◌, subst, arith}
 use mathlib.Core.Option.{none}
 use lib.ListN.{length-map}
-use Rattle.std.specs.List.{AllByRecursion as All}
+use Rattle.std.specs.List.{AllByRecursion}
 use Rattle.std.proofs.lemmas.List.{drop_at, length-take-le}
 use Rattle.std.proofs.ByRecursion.{All-append}
 use Rattle.columns.specs.Column.{Node, Column, Columns, column, end, ◌&◌}
@@ -62,7 +62,7 @@ pub record Taken (taken : Entries) (m : Marks) : Type 0 where
   pub buffers : of_pool taken 10 ≡ m.buffers
   pub slip : of_pool taken 11 ≡ 0
 
-taken_is : (parcel : List ℕ) (next : ℕ) (ds : List Draft) (c : Column) → preorder c ≡ nodes_from parcel next ds → All (Drafted parcel) ds → All Filled ds → Taken (filed_needs c (brought_all parcel ds)) (takes_all parcel ds)
+taken_is : (parcel : List ℕ) (next : ℕ) (ds : List Draft) (c : Column) → preorder c ≡ nodes_from parcel next ds → AllByRecursion (Drafted parcel) ds → AllByRecursion Filled ds → Taken (filed_needs c (brought_all parcel ds)) (takes_all parcel ds)
 taken_is parcel next ds c e a f =
     let t = all_take parcel next ds a f in
     let at : (pool : Entries → ℕ) → ((xs ys : Entries) → pool (plus xs ys) ≡ pool xs + pool ys) → pool [] ≡ 0 → pool (column_needs c) ≡ sum_by (λ (n : Node). pool (node_needs n)) (nodes_from parcel next ds) =
@@ -101,7 +101,7 @@ pub record Told (p : Pools) (parcel : List ℕ) (ds : List Draft) (s : Shelf) : 
   pub after : Shelf
   pub is_after : filed_on s (parcel_read s.buffers parcel) ≡ after
   pub listed : preorder c ≡ nodes_from parcel p.buffers.mark ds
-  pub filled : All Filled ds
+  pub filled : AllByRecursion Filled ds
   pub column_room : Fit p.columns 1
   pub room : Fits p (takes_all parcel ds)
   pub taken : Entries
@@ -117,7 +117,7 @@ buffers_count bytes ps = length-map ps (part_of bytes)
 fit_by : {X : Type 0} (p : Pool X) (mark need n : ℕ) → mark ≡ p.mark → need ≡ n → (mark + need ≤ length p.lent.now) × (mark + need ≤ 1048576) → Fit p n
 fit_by p mark need n a b h = let x = h.0 in let y = h.1 in record { lent = omega arith; capped = omega arith }
 
-pub told : (p : Pools) (slip : ℕ) (s : Shelf) (parcel : List ℕ) (ds : List Draft) → Ready p → All (Drafted parcel) ds → Accepted p slip s parcel ds → Told p parcel ds s
+pub told : (p : Pools) (slip : ℕ) (s : Shelf) (parcel : List ℕ) (ds : List Draft) → Ready p → AllByRecursion (Drafted parcel) ds → Accepted p slip s parcel ds → Told p parcel ds s
 told p slip s parcel ds ready a h =
     let o = h.outlined in
     let f : Found = o.f in
@@ -169,10 +169,10 @@ told p slip s parcel ds ready a h =
 mutual
   unfolding sizes_of sizes_each node_count nodes_below
 
-  sizes_low : (c : Column) (n : ℕ) → node_count c ≤ n → All (λ (s : ℕ). s ≤ n) (sizes_of c)
+  sizes_low : (c : Column) (n : ℕ) → node_count c ≤ n → AllByRecursion (λ (s : ℕ). s ≤ n) (sizes_of c)
   sizes_low (column x cs) n h = (h, each_low cs n (omega arith))
 
-  each_low : (cs : Columns) (n : ℕ) → nodes_below cs ≤ n → All (λ (s : ℕ). s ≤ n) (sizes_each cs)
+  each_low : (cs : Columns) (n : ℕ) → nodes_below cs ≤ n → AllByRecursion (λ (s : ℕ). s ≤ n) (sizes_each cs)
   each_low end n h = tt
   each_low (c & cs) n h = All-append (λ (s : ℕ). s ≤ n) (sizes_of c) (sizes_each cs) (sizes_low c n (omega arith)) (each_low cs n (omega arith))
 
@@ -184,9 +184,9 @@ counts_from parcel next (d ∷ ds) = ap (λ (l : List ℕ). d.head.children ∷ 
 pub spans_sizes : (p : Pools) (parcel : List ℕ) (ds : List Draft) (c : Column) → preorder c ≡ nodes_from parcel p.buffers.mark ds → spans_of (map children_in ds) ≡ sizes_of c
 spans_sizes p parcel ds c e = ap spans_of (sym (counts_from parcel p.buffers.mark ds) ∙ sym (ap (map count_of) e)) ∙ spans_are c
 
-pub spans_low : (p : Pools) (parcel : List ℕ) (ds : List Draft) (c : Column) → preorder c ≡ nodes_from parcel p.buffers.mark ds → length ds ≤ 256 → All (λ (s : ℕ). s ≤ 256) (spans_of (map children_in ds))
+pub spans_low : (p : Pools) (parcel : List ℕ) (ds : List Draft) (c : Column) → preorder c ≡ nodes_from parcel p.buffers.mark ds → length ds ≤ 256 → AllByRecursion (λ (s : ℕ). s ≤ 256) (spans_of (map children_in ds))
 spans_low p parcel ds c e h =
-    subst (All (λ (s : ℕ). s ≤ 256)) (sym (spans_sizes p parcel ds c e))
+    subst (AllByRecursion (λ (s : ℕ). s ≤ 256)) (sym (spans_sizes p parcel ds c e))
     (sizes_low c 256 (let l = sym (preorder_length c) ∙ ap length e ∙ nodes_length parcel p.buffers.mark ds in omega arith))
 
 pub no_columns : (parcel : List ℕ) (ds : List Draft) → (takes_all parcel ds).columns ≡ 0

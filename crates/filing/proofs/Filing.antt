@@ -1,6 +1,6 @@
 -- Drafts that are stored one after another.
 use Rattle.std.proofs.Common.{◌≡◌, ℕ, suc, ◌+◌, ◌<◌, ◌≤◌, min, List, [], ◌∷◌, ◌++◌, length, get_or, take, drop, sym, refl, ap, ◌∙◌, subst, ap₂, append_assoc, append-nil, add-zero, add_assoc, zero-add, arith, length-append, length-take}
-use Rattle.std.specs.List.{AllByRecursion as All}
+use Rattle.std.specs.List.{AllByRecursion}
 use Rattle.std.proofs.lemmas.List.{drop_at, take_at, map-append, drop_more, take_more, take_all}
 use Rattle.std.proofs.ByRecursion.{All-append, All-weaker}
 use Rattle.columns.specs.Says.{slice}
@@ -116,7 +116,7 @@ first_lies : {xs : List ℕ} (start : ℕ) (b z : List ℕ) → Segment xs start
 first_lies {xs} start b z s =
     ap (λ (k : ℕ). slice xs k (length b)) (sym (add-zero start)) ∙ (segment_part s 0 (length b) (let e = length-append b z in omega arith)).is ∙ take_at b z (length b) refl
 
-pub parts_inside : {xs : List ℕ} (start : ℕ) (bs : List (List ℕ)) → Segment xs start (length (flat bs)) (flat bs) → All (Inside xs) (parts_from start bs)
+pub parts_inside : {xs : List ℕ} (start : ℕ) (bs : List (List ℕ)) → Segment xs start (length (flat bs)) (flat bs) → AllByRecursion (Inside xs) (parts_from start bs)
 parts_inside start [] s = tt
 parts_inside {xs} start (b ∷ bs) s =
     ((let w = s.within in let e = length-append b (flat bs) in omega arith), parts_inside (start + length b) bs (rest_lies start b (flat bs) s))

@@ -1,7 +1,7 @@
 -- What a filed column needs is what its drafts take.
 use Rattle.std.proofs.Common.{◌≡◌, ℕ, ◌+◌, ◌*◌, List, [], ◌∷◌, ◌++◌, map, length, Some, None, Option, sym, refl, ap, ◌∙◌, subst, ap₂, add_assoc, zero-add, arith, length-append}
 use mathlib.Core.Option.{some, none}
-use Rattle.std.specs.List.{AllByRecursion as All}
+use Rattle.std.specs.List.{AllByRecursion}
 use Rattle.formats.specs.declared.format.Width.TheVariants.{One, Two, Four, Eight}
 use Rattle.formats.specs.declared.kind.Kind.{Kind}
 use Rattle.formats.specs.declared.kind.Kind.TheVariants.{Primitive, Boolean, Text, View, Map, Struct, RunEnds, FixedList}
@@ -118,7 +118,7 @@ pub record AllTake (parcel : List ℕ) (next : ℕ) (ds : List Draft) : Type 0 w
   pub lists : sum_by (λ (n : Node). of_pool (node_needs n) 9) (nodes_from parcel next ds) ≡ (takes_all parcel ds).lists
   pub columns : (takes_all parcel ds).columns ≡ 0
 
-pub all_take : (parcel : List ℕ) (next : ℕ) (ds : List Draft) → All (Drafted parcel) ds → All Filled ds → AllTake parcel next ds
+pub all_take : (parcel : List ℕ) (next : ℕ) (ds : List Draft) → AllByRecursion (Drafted parcel) ds → AllByRecursion Filled ds → AllTake parcel next ds
 unfolding nodes_from takes_all brought_all
 all_take parcel next [] a f = record { nodes = refl; bytes = refl; shorts = refl; words = refl; longs = refl; offsets = refl; views = refl; lists = refl; columns = refl }
 all_take parcel next (d ∷ ds) a f =

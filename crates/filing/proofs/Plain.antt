@@ -4,7 +4,7 @@ use mathlib.Core.HLevel.{×_prop, Unit-prop}
 use mathlib.Core.Logic.{∥∥₁_elim}
 use native.Mathlib.Nat.{ℕ_set}
 use native.Mathlib.Bridge.{le_prop}
-use Rattle.std.specs.List.{AllByRecursion as All}
+use Rattle.std.specs.List.{AllByRecursion}
 use Rattle.columns.specs.Ledger.{Shelf}
 use Rattle.pools.specs.declared.pool.Pool.{Pool}
 use Rattle.pools.specs.declared.pools.Pools.{Pools}
@@ -22,12 +22,12 @@ use Rattle.filing.specs.Accepted.{Accepted}
 use Rattle.filing.proofs.Accepting.{told, spans_low}
 
 pub record Plain (p : Pools) (parcel : List ℕ) (ds : List Draft) : Type 0 where
-  pub filled : All Filled ds
+  pub filled : AllByRecursion Filled ds
   pub column_room : Fit p.columns 1
   pub room : Fits p (takes_all parcel ds)
-  pub low : All (λ (s : ℕ). s ≤ 256) (spans_of (map children_in ds))
+  pub low : AllByRecursion (λ (s : ℕ). s ≤ 256) (spans_of (map children_in ds))
 
-all_prop : {X : Type 0} (P : X → Type 0) → ((x : X) → IsProp (P x)) → (xs : List X) → IsProp (All P xs)
+all_prop : {X : Type 0} (P : X → Type 0) → ((x : X) → IsProp (P x)) → (xs : List X) → IsProp (AllByRecursion P xs)
 all_prop P h [] = Unit-prop
 all_prop P h (x ∷ xs) = ×_prop (h x) (all_prop P h xs)
 
@@ -65,7 +65,7 @@ plain_prop p parcel ds = λ x y i.
       low = all_prop (λ (s : ℕ). s ≤ 256) (λ s. le_prop) (spans_of (map children_in ds)) x.low y.low i;
     }
 
-pub plain : (p : Pools) (parcel : List ℕ) (ds : List Draft) → Ready p → All (Drafted parcel) ds → length ds ≤ 256 →
+pub plain : (p : Pools) (parcel : List ℕ) (ds : List Draft) → Ready p → AllByRecursion (Drafted parcel) ds → length ds ≤ 256 →
     ∥ ((s : Shelf) × (slip : ℕ) × Accepted p slip s parcel ds) ∥₁ → Plain p parcel ds
 plain p parcel ds ready drafted few accepted =
     ∥∥₁_elim accepted (plain_prop p parcel ds) (λ a.

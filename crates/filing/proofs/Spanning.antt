@@ -1,6 +1,6 @@
 -- Sizes from the last node on.
 use Rattle.std.proofs.Common.{◌≡◌, ℕ, zero, suc, ◌+◌, ◌-◌, ◌<◌, ◌≤◌, List, [], ◌∷◌, length, get_or, drop, set, sym, refl, ap, ◌∙◌, subst, ap₂, add-zero, arith}
-use Rattle.std.specs.List.{AllByRecursion as All}
+use Rattle.std.specs.List.{AllByRecursion}
 use Rattle.std.proofs.lemmas.List.{drop_more, drop-set, drop-drop, get_or-drop, drop_all}
 use Rattle.std.proofs.ByRecursion.{All-drop}
 use Rattle.filing.specs.Row.{spanned, spans_of}
@@ -38,11 +38,11 @@ spans_more ks ss i h l e v is =
     drop-set ss i v l ∙ ap₂ (λ (x : ℕ) (r : List ℕ). x ∷ r) (is ∙ ap (λ (r : List ℕ). 1 + spanned (get_or ks i 0) r) e) e ∙ sym (ap spans_of (drop_more ks i 0 h))
 
 -- a size that is known to be low
-pub span_few : (ks ss : List ℕ) (i : ℕ) → i < length ks → All (λ (s : ℕ). s ≤ 256) (spans_of ks) → drop (i + 1) ss ≡ spans_of (drop (i + 1) ks) → 1 + spanned (get_or ks i 0) (drop (i + 1) ss) ≤ 256
+pub span_few : (ks ss : List ℕ) (i : ℕ) → i < length ks → AllByRecursion (λ (s : ℕ). s ≤ 256) (spans_of ks) → drop (i + 1) ss ≡ spans_of (drop (i + 1) ks) → 1 + spanned (get_or ks i 0) (drop (i + 1) ss) ≤ 256
 unfolding spans_of
 span_few ks ss i h a e =
-    let all : All (λ (s : ℕ). s ≤ 256) (spans_of (drop i ks)) = subst (All (λ (s : ℕ). s ≤ 256)) (spans_drop i ks) (All-drop (λ (s : ℕ). s ≤ 256) i (spans_of ks) a) in
-    let here : All (λ (s : ℕ). s ≤ 256) (spans_of (get_or ks i 0 ∷ drop (i + 1) ks)) = subst (λ (l : List ℕ). All (λ (s : ℕ). s ≤ 256) (spans_of l)) (drop_more ks i 0 h) all in
+    let all : AllByRecursion (λ (s : ℕ). s ≤ 256) (spans_of (drop i ks)) = subst (AllByRecursion (λ (s : ℕ). s ≤ 256)) (spans_drop i ks) (All-drop (λ (s : ℕ). s ≤ 256) i (spans_of ks) a) in
+    let here : AllByRecursion (λ (s : ℕ). s ≤ 256) (spans_of (get_or ks i 0 ∷ drop (i + 1) ks)) = subst (λ (l : List ℕ). AllByRecursion (λ (s : ℕ). s ≤ 256) (spans_of l)) (drop_more ks i 0 h) all in
     subst (λ (r : List ℕ). 1 + spanned (get_or ks i 0) r ≤ 256) (sym e) here.0
 
 pub spans_start : (ks ss : List ℕ) (n : ℕ) → length ks ≤ n → length ss ≤ n → drop n ss ≡ spans_of (drop n ks)

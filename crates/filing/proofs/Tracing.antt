@@ -1,6 +1,6 @@
 -- What is told of drafts by their data buffers as they lie in the parcel.
 use Rattle.std.proofs.Common.{◌≡◌, ℕ, ◌+◌, ◌*◌, true, ◌&&◌, eqb, List, [], ◌∷◌, ◌++◌, length, Some, None, Option, sym, refl, ap, ◌∙◌, ap₂, append_assoc, append-nil, length-append}
-use Rattle.std.specs.List.{AllByRecursion as All}
+use Rattle.std.specs.List.{AllByRecursion}
 use Rattle.std.proofs.lemmas.Bool.{and_parts, eqb-true}
 use Rattle.formats.specs.declared.format.Width.TheVariants.{One, Two, Four, Eight}
 use Rattle.formats.specs.declared.kind.Kind.{Kind}
@@ -41,7 +41,7 @@ held_is : (parcel : List ℕ) (bs : List (List ℕ)) (number : ℕ) (d : Draft) 
 held_is parcel bs number d h = ap (drafts.buffers_in bs) (lent_is parcel bs number d h)
 
 -- all drafts: the nodes, and the data buffers after them
-pub nodes_are : (parcel : List ℕ) (bs : List (List ℕ)) (number : ℕ) (ds : List Draft) → All (Drafted parcel) ds → nodes_of parcel bs number ds ≡ nodes_from parcel (length bs) ds
+pub nodes_are : (parcel : List ℕ) (bs : List (List ℕ)) (number : ℕ) (ds : List Draft) → AllByRecursion (Drafted parcel) ds → nodes_of parcel bs number ds ≡ nodes_from parcel (length bs) ds
 unfolding nodes_of nodes_from
 nodes_are parcel bs number [] a = refl
 nodes_are parcel bs number (d ∷ ds) a =
@@ -51,7 +51,7 @@ nodes_are parcel bs number (d ∷ ds) a =
     ∙ nodes_are parcel (bs ++ brought_by parcel d) (number + 1) ds a.1
     ∙ ap (λ (n : ℕ). nodes_from parcel n ds) (length-append bs (brought_by parcel d)))
 
-pub held_are : (parcel : List ℕ) (bs : List (List ℕ)) (number : ℕ) (ds : List Draft) → All (Drafted parcel) ds → held_of parcel bs number ds ≡ bs ++ brought_all parcel ds
+pub held_are : (parcel : List ℕ) (bs : List (List ℕ)) (number : ℕ) (ds : List Draft) → AllByRecursion (Drafted parcel) ds → held_of parcel bs number ds ≡ bs ++ brought_all parcel ds
 unfolding held_of brought_all
 held_are parcel bs number [] a = sym (append-nil bs)
 held_are parcel bs number (d ∷ ds) a =
@@ -87,7 +87,7 @@ filled_one parcel d es h e =
           ∙ ap (λ (K : rules_format.Kind). body_size K (head_in parcel d)) (sym h.layout) ∙ size_is d.kind (head_in parcel d) h.offsets;
     }
 
-pub all_filled : (parcel : List ℕ) (before : ℕ) (bs : List (List ℕ)) (number : ℕ) (ds : List Draft) → All (Drafted parcel) ds → Passed (checks_of parcel before bs number ds) → All Filled ds
+pub all_filled : (parcel : List ℕ) (before : ℕ) (bs : List (List ℕ)) (number : ℕ) (ds : List Draft) → AllByRecursion (Drafted parcel) ds → Passed (checks_of parcel before bs number ds) → AllByRecursion Filled ds
 unfolding checks_of
 all_filled parcel before bs number [] a p = tt
 all_filled parcel before bs number (d ∷ ds) a p =

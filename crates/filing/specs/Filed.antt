@@ -1,6 +1,6 @@
 -- What the drafts of a parcel add to the pools, one after another.
 use Rattle.std.specs.Prelude.{◌≡◌, ℕ, ◌+◌, List, [], ◌∷◌, ◌++◌, length}
-use Rattle.std.specs.List.{AllByRecursion as All}
+use Rattle.std.specs.List.{AllByRecursion}
 use Rattle.columns.specs.Column.{Node}
 use Rattle.pools.specs.declared.records.Part.{Part}
 use Rattle.pools.specs.declared.pools.Pools.{Pools}
@@ -74,5 +74,5 @@ pub record Filed (p q : Pools) (parcel : List ℕ) (ds : List Draft) (sizes : Li
   pub row : Row (store q) p.nodes.mark (nodes_from parcel p.buffers.mark ds) sizes
   pub new : List Part
   pub parts : Gains p.buffers new q.buffers
-  pub inside : All (Inside (used q.bytes)) new
+  pub inside : AllByRecursion (Inside (used q.bytes)) new
   pub are : buffers_in (used q.bytes) new ≡ brought_all parcel ds

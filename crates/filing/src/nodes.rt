@@ -1,6 +1,6 @@
 // The nodes of a parcel into the pools, in parcel order.
 ghost use Rattle.std.specs.Prelude.{◌≡◌, length};
-ghost use Rattle.std.specs.List.{AllByRecursion as All};
+ghost use Rattle.std.specs.List.{AllByRecursion};
 ghost use Rattle.pools.specs.Kept.{Ready};
 ghost use Rattle.parcels.specs.Drafts.{Drafted};
 ghost use Rattle.filing.specs.News.{Filled};
@@ -13,8 +13,8 @@ use pools::pools::Pools;
 // Adds each draft in turn, with the number of nodes of its subtree.
 pub(crate) fn put_nodes(pools: &mut Pools<'_>, parcel: &[u8], drafts: &[Draft], spans: &[u16])
     requires ready { Ready pools.old }
-    requires drafted { All (Drafted parcel.now) drafts.now }
-    requires filled { All Filled drafts.now }
+    requires drafted { AllByRecursion (Drafted parcel.now) drafts.now }
+    requires filled { AllByRecursion Filled drafts.now }
     requires room { Fits pools.old (takes_all parcel.now drafts.now) }
     requires spans { length drafts.now ≡ length spans.now }
     ensures { Filed pools.old pools.new parcel.now drafts.now spans.now }

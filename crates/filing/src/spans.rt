@@ -1,6 +1,6 @@
 // How many nodes each node has with all below it.
 ghost use Rattle.std.specs.Prelude.{◌≡◌, ℕ, ◌+◌, ◌≤◌, map, length, drop, slice_index};
-ghost use Rattle.std.specs.List.{AllByRecursion as All};
+ghost use Rattle.std.specs.List.{AllByRecursion};
 ghost use Rattle.filing.specs.Row.{spanned, spans_of};
 ghost use Rattle.filing.specs.Counts.{children_in};
 
@@ -29,7 +29,7 @@ fn span_at(spans: &[u16], at: usize, children: u8) -> u16
 pub(crate) fn fill_spans(spans: &mut [u16], drafts: &[Draft])
     requires same { length drafts.now ≡ length spans.old }
     requires low { length drafts.now ≤ 256 }
-    requires few { All (λ (s : ℕ). s ≤ 256) (spans_of (map children_in drafts.now)) }
+    requires few { AllByRecursion (λ (s : ℕ). s ≤ 256) (spans_of (map children_in drafts.now)) }
     ensures { spans.new ≡ spans_of (map children_in drafts.now) }
 {
     let mut i = drafts.len();

@@ -1,6 +1,6 @@
 // An accepted parcel into the pools.
 ghost use Rattle.std.specs.Prelude.{ℕ, ◌≤◌, [], ◌∷◌, length};
-ghost use Rattle.std.specs.List.{AllByRecursion as All};
+ghost use Rattle.std.specs.List.{AllByRecursion};
 ghost use Rattle.columns.specs.Parcel.{parcel_read};
 ghost use Rattle.columns.specs.Ledger.{Shelf, filed_on};
 ghost use Rattle.pools.specs.Kept.{Ready, Kept};
@@ -19,7 +19,7 @@ use pools::records::ColumnEntry;
 // The same as `store`, with a table lent for the sizes of the subtrees.
 fn store_by(pools: &mut Pools<'_>, parcel: &[u8], drafts: &[Draft], table: &mut [u16])
     requires ready { Ready pools.old }
-    requires drafted { All (Drafted parcel.now) drafts.now }
+    requires drafted { AllByRecursion (Drafted parcel.now) drafts.now }
     requires few { length drafts.now ≤ 256 }
     requires accepted { ∥ ((s : Shelf) × (slip : ℕ) × Accepted pools.old slip s parcel.now drafts.now) ∥₁ }
     requires table { length drafts.now ≤ length table.old }
@@ -38,7 +38,7 @@ fn store_by(pools: &mut Pools<'_>, parcel: &[u8], drafts: &[Draft], table: &mut 
 // Adds the column that the drafts tell, with all that it holds: the pools then show the shelf with the parcel filed.
 pub fn store(pools: &mut Pools<'_>, parcel: &[u8], drafts: &[Draft])
     requires ready { Ready pools.old }
-    requires drafted { All (Drafted parcel.now) drafts.now }
+    requires drafted { AllByRecursion (Drafted parcel.now) drafts.now }
     requires few { length drafts.now ≤ 256 }
     requires accepted { ∥ ((s : Shelf) × (slip : ℕ) × Accepted pools.old slip s parcel.now drafts.now) ∥₁ }
     ensures kept { Kept pools.old pools.new }

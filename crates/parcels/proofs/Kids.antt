@@ -1,5 +1,5 @@
 use Rattle.std.proofs.Common.{◌≡◌, ℕ, ◌+◌, ◌-◌, ◌<◌, ◌≤◌, Bool, true, ◌&&◌, ltb, List, [], ◌∷◌, ◌++◌, map, length, get_or, take, set, sym, refl, ap, ◌∙◌, subst, arith}
-use Rattle.std.specs.List.{between, flat_map, AllByRecursion as All}
+use Rattle.std.specs.List.{between, flat_map, AllByRecursion}
 use Rattle.std.proofs.lemmas.List.{map_push, length_push, length-map, take-set, take-take}
 use Rattle.std.proofs.lemmas.List.Edits.{length-between, between_none}
 use Rattle.columns.specs.Checks.{Check, unless, first_failing}
@@ -52,7 +52,7 @@ pub record KidsInside (parcel : List ℕ) (p here : Place) (old new : List Draft
   pub some : p.nodes ≤ here.nodes
   pub few : here.nodes ≤ 256
   pub kept : take p.nodes new ≡ take p.nodes old
-  pub good : All (Drafted parcel) (between p.nodes here.nodes new)
+  pub good : AllByRecursion (Drafted parcel) (between p.nodes here.nodes new)
 
 traced_at : (parcel : List ℕ) (before : ℕ) (bs after : List (List ℕ)) (n : ℕ) (xs ys : List Draft) (c c' : List Check) (l l' : List (Node × ℕ)) → xs ≡ ys → c ≡ c' → l ≡ l'
     → Traced parcel before bs n ys c' l' after → Traced parcel before bs n xs c l after
@@ -112,14 +112,14 @@ inside_more parcel p here q old D E le I J =
       some = omega arith;
       few = J.few;
       kept = sym (take-take p.nodes here.nodes E I.some) ∙ ap (take p.nodes) J.kept ∙ take-take p.nodes here.nodes D I.some ∙ I.kept;
-      good = subst (All (Drafted parcel))
+      good = subst (AllByRecursion (Drafted parcel))
           (sym (between_split E p.nodes here.nodes q.nodes I.some (omega arith) le ∙ ap (λ (l : List Draft). l ++ between here.nodes q.nodes E) (between_kept E D p.nodes here.nodes J.kept)))
           (All-append (Drafted parcel) (between p.nodes here.nodes D) (between here.nodes q.nodes E) I.good J.good);
     }
 
 pub inside_start : (parcel : List ℕ) (p : Place) (D : List Draft) → Fair parcel p → p.nodes ≤ 256 → KidsInside parcel p p D D
 inside_start parcel p D f n =
-    record { fair = f; some = omega arith; few = n; kept = refl; good = subst (All (Drafted parcel)) (sym (between_none D p.nodes)) tt }
+    record { fair = f; some = omega arith; few = n; kept = refl; good = subst (AllByRecursion (Drafted parcel)) (sym (between_none D p.nodes)) tt }
 
 -- the node whole
 module _ (parcel : List ℕ) (before levels : ℕ) (p q : Place) (bs : List (List ℕ)) (code : Code) (role : Role) (h : Head) (x : Parts) (o : OpenedAs parcel p bs levels (role_of role) h x q) (n : q.nodes ≡ p.nodes + 1) where
@@ -192,8 +192,8 @@ found_inside parcel p q here old D d n le g I =
       some = omega arith;
       few = I.few;
       kept = take-set D p.nodes d ∙ sym (take-take p.nodes q.nodes D (omega arith)) ∙ ap (take p.nodes) I.kept ∙ take-take p.nodes q.nodes old (omega arith);
-      good = subst (All (Drafted parcel)) (sym (between_set D p.nodes here.nodes d (omega arith) le))
-          (g, subst (λ (m : ℕ). All (Drafted parcel) (between m here.nodes D)) n I.good);
+      good = subst (AllByRecursion (Drafted parcel)) (sym (between_set D p.nodes here.nodes d (omega arith) le))
+          (g, subst (λ (m : ℕ). AllByRecursion (Drafted parcel) (between m here.nodes D)) n I.good);
     }
 
 pub drafted : (parcel : List ℕ) (p q : Place) (levels : ℕ) (code : Code) (role : Role) (h : Head) (f : Format) (x : Parts) (b : Below) → OpenedInside parcel p levels h f x q

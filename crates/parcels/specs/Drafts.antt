@@ -1,6 +1,6 @@
 -- What drafted nodes say of a column: its nodes in parcel order, and the checks that wait until the parcel is read.
 use Rattle.std.specs.Prelude.{◌≡◌, ℕ, ◌+◌, ◌*◌, ◌<◌, ◌≤◌, Bool, true, false, cond, ◌&&◌, List, [], ◌∷◌, ◌++◌, length, take, ◌==◌, nat_eq, nat_lt, slice_index}
-use Rattle.std.specs.List.{between, AllByRecursion as All}
+use Rattle.std.specs.List.{between, AllByRecursion}
 use Rattle.columns.specs.Checks.{Check, unless, first_failing, all_of}
 use Rattle.columns.specs.Kinds.{Kind, primitive, boolean, strings, views, lists, maps, structs, run_ended, fixed_lists, unknown}
 use Rattle.columns.specs.Format.{kind_of, offset_bytes}
@@ -144,7 +144,7 @@ pub record FoundInside (parcel : List ℕ) (p q : Place) (old new : List Draft) 
   pub some : p.nodes < q.nodes
   pub few : q.nodes ≤ 256
   pub kept : take p.nodes new ≡ take p.nodes old
-  pub good : All (Drafted parcel) (between p.nodes q.nodes new)
+  pub good : AllByRecursion (Drafted parcel) (between p.nodes q.nodes new)
 
 -- the parcel is read to its end, and the drafts are its nodes
 pub record Outlined (shelved : List (List ℕ)) (parcel : List ℕ) (drafts : List Draft) : Type 0 where

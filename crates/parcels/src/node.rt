@@ -5,7 +5,7 @@ ghost use Rattle.parcels.specs.Reads.{placed, Fair};
 ghost use Rattle.denials.specs.Said.{said};
 ghost use Rattle.parcels.specs.Roles.{role_of};
 ghost use Rattle.parcels.specs.Drafts.{below_more, FoundAs, FoundInside, Outlined, Drafted};
-ghost use Rattle.std.specs.List.{AllByRecursion as All};
+ghost use Rattle.std.specs.List.{AllByRecursion};
 
 use crate::allow::child_role;
 use crate::begin::begin;
@@ -85,7 +85,7 @@ pub fn outline(parcel: &[u8], drafts: &mut [Draft]) -> Result<usize, Denial>
       | Ok n ↦ Outlined shelved parcel.now (take n drafts.new)
       | Err d ↦ parcel_read shelved parcel.now ≡ denied (said d)
     ] }
-    ensures inside { elim result [ Ok n ↦ (n ≤ 256) × All (Drafted parcel.now) (take n drafts.new) | Err _ ↦ Unit {0} ] }
+    ensures inside { elim result [ Ok n ↦ (n ≤ 256) × AllByRecursion (Drafted parcel.now) (take n drafts.new) | Err _ ↦ Unit {0} ] }
 {
     let start = Place {
         at: 0,

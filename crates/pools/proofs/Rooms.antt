@@ -1,7 +1,7 @@
 -- Where no pool is too short, what is needed fits.
 use Rattle.std.proofs.Common.{◌≡◌, ℕ, ◌+◌, ◌≤◌, Bool, true, false, cond, ◌&&◌, leb, List, [], ◌∷◌, ◌++◌, length, None, refl, ap, ◌∙◌, arith}
 use mathlib.Core.Option as math
-use Rattle.std.specs.List.{AllByRecursion as All}
+use Rattle.std.specs.List.{AllByRecursion}
 use Rattle.std.proofs.lemmas.Bool.{and_parts, leb-true}
 use Rattle.std.proofs.lemmas.List.{length-take-le}
 use Rattle.columns.specs.Checks.{first_failing}
@@ -18,12 +18,12 @@ use Rattle.pools.specs.Shows.{counts, Shows}
 use Rattle.pools.specs.Marked.{marks_of, lengths_of, entries}
 use Rattle.pools.specs.Kept.{Standing, Ready, RoomFor}
 
-none_failing : {X : Type 0} (test : X → Bool) (xs : List X) → first_failing test xs ≡ math.none → All (λ x. test x ≡ true) xs
+none_failing : {X : Type 0} (test : X → Bool) (xs : List X) → first_failing test xs ≡ math.none → AllByRecursion (λ x. test x ≡ true) xs
 none_failing test [] e = tt
 none_failing {X} test (x ∷ xs) e = go (test x) refl e (none_failing test xs)
   where
     go : (b : Bool) → test x ≡ b → cond b (first_failing test xs) (math.some x) ≡ math.none →
-        (first_failing test xs ≡ math.none → All (λ y. test y ≡ true) xs) → All (λ y. test y ≡ true) (x ∷ xs)
+        (first_failing test xs ≡ math.none → AllByRecursion (λ y. test y ≡ true) xs) → AllByRecursion (λ y. test y ≡ true) (x ∷ xs)
     go true t h rest = (t, rest h)
     go false t h rest = absurd (let z : ◌≡◌ {A = ℕ} 0 1 = cc in omega arith)
 
@@ -42,7 +42,7 @@ room_for p needs len mark pairs e =
     let L : Entries = entries (lengths_of p) ++ len ∷ [] in
     let M : Entries = entries (marks_of p) ++ mark ∷ [] in
     let N : Entries = entries needs ++ pairs ∷ [] in
-    let all : All (λ k. fits L M N k ≡ true) pools = none_failing (fits L M N) pools (not_some (full_pool L M N) e) in
+    let all : AllByRecursion (λ k. fits L M N k ≡ true) pools = none_failing (fits L M N) pools (not_some (full_pool L M N) e) in
     let last = and_parts (leb (mark + pairs) len) (leb (mark + pairs) most_entries) all.1.1.1.1.1.1.1.1.1.1.0 in (
       record {
         columns = fit_from p.columns needs.columns all.0;

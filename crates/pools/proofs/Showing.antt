@@ -1,6 +1,6 @@
 -- What the pools show of a shelf as columns and data buffers are added.
 use Rattle.std.proofs.Common.{◌≡◌, ℕ, ◌+◌, ◌<◌, ◌⊎◌, List, [], ◌∷◌, ◌++◌, length, get_or, sym, refl, ap, ◌∙◌, subst, ap₂, inl, inr, ⊎_elim, arith}
-use Rattle.std.specs.List.{AllByRecursion as All}
+use Rattle.std.specs.List.{AllByRecursion}
 use Rattle.std.proofs.lemmas.List.{map-append, get_or_append_left, get_or_push, length_push, append-nil}
 use Rattle.std.proofs.lemmas.Bool.{cases_lt}
 use Rattle.std.proofs.ByRecursion.{All-append, All-weaker}
@@ -54,15 +54,15 @@ part_on p f i = (segment_on f (record { within = i; is = refl })).is
 inside_on : {xs ys : List ℕ} (p : Part) → Front xs ys → Inside xs p → Inside ys p
 inside_on p f i = let l = front_length f in omega arith
 
-pub buffers_on : {xs ys : List ℕ} (ps : List Part) → Front xs ys → All (Inside xs) ps → buffers_in ys ps ≡ buffers_in xs ps
+pub buffers_on : {xs ys : List ℕ} (ps : List Part) → Front xs ys → AllByRecursion (Inside xs) ps → buffers_in ys ps ≡ buffers_in xs ps
 buffers_on [] f h = refl
 buffers_on (p ∷ ps) f h = ap₂ (λ (b : List ℕ) (bs : List (List ℕ)). b ∷ bs) (part_on p f h.0) (buffers_on ps f h.1)
 
-pub shelved_more : {P Q : Store} {bs : List (List ℕ)} (new : List Part) → Extends P Q → Q.buffers ≡ P.buffers ++ new → All (Inside Q.bytes) new → Shelved P bs → Shelved Q (bs ++ buffers_in Q.bytes new)
+pub shelved_more : {P Q : Store} {bs : List (List ℕ)} (new : List Part) → Extends P Q → Q.buffers ≡ P.buffers ++ new → AllByRecursion (Inside Q.bytes) new → Shelved P bs → Shelved Q (bs ++ buffers_in Q.bytes new)
 shelved_more {P} {Q} {bs} new e grows i s =
     record {
       inside =
-          subst (All (Inside Q.bytes)) (sym grows)
+          subst (AllByRecursion (Inside Q.bytes)) (sym grows)
           (All-append (Inside Q.bytes) P.buffers new
           (All-weaker (Inside P.bytes) (Inside Q.bytes) (λ p. inside_on p e.bytes) P.buffers s.inside) i);
       are =

@@ -4,7 +4,7 @@ use Rattle.columns.specs.Column.{Column}
 use Rattle.columns.specs.Pools.{Entries, of_pool, pools, plus}
 use Rattle.columns.specs.Column.{at}
 use Rattle.columns.specs.Ledger.{Shelf}
-use Rattle.std.specs.List.{AllByRecursion as All}
+use Rattle.std.specs.List.{AllByRecursion}
 use Rattle.pools.specs.declared.records.Part.{Part}
 use Rattle.pools.specs.declared.records.ColumnEntry.{ColumnEntry}
 use Rattle.pools.specs.Parts.{buffers_in, Inside}
@@ -18,7 +18,7 @@ pub record ColumnsShown (P : Store) (columns : List Column) : Type 0 where
 
 -- Each data buffer lies in the byte pool, and these are their bytes.
 pub record Shelved (P : Store) (buffers : List (List ℕ)) : Type 0 where
-  pub inside : All (Inside P.bytes) P.buffers
+  pub inside : AllByRecursion (Inside P.bytes) P.buffers
   pub are : buffers_in P.bytes P.buffers ≡ buffers
 
 -- how many entries of each pool are used; the slip is free between calls
@@ -39,7 +39,7 @@ pub record Added (P Q : Store) (c : Column) (new : List Part) (taken : Entries) 
   pub columns : Q.columns ≡ P.columns ++ entry ∷ []
   pub stored : Stored Q entry.root c
   pub buffers : Q.buffers ≡ P.buffers ++ new
-  pub inside : All (Inside Q.bytes) new
+  pub inside : AllByRecursion (Inside Q.bytes) new
   pub counted : counts Q ≡ plus (counts P) taken
 
 -- the shelf with one more column

@@ -3,7 +3,7 @@ use Rattle.std.proofs.Common.{ℕ, ◌+◌, List, [], ◌∷◌, Some, None, Opt
 use mathlib.Core.HLevel.{Π_prop, ×_prop, Unit-prop, ⊥_prop}
 use native.Mathlib.Nat.{ℕ_set}
 use native.Mathlib.Bridge.{le_prop}
-use Rattle.std.specs.List.{AllByRecursion as All}
+use Rattle.std.specs.List.{AllByRecursion}
 use Rattle.formats.specs.declared.kind.Kind.{Kind}
 use Rattle.formats.specs.declared.kind.Kind.TheVariants.{Primitive, Boolean, Text, View as Viewed, List as Listed, Map, Struct, RunEnds, FixedList}
 use Rattle.columns.specs.Column.{View, short, long}
@@ -19,7 +19,7 @@ use Rattle.rows.specs.Ranged.{RangeThere, Rises}
 use Rattle.reading.specs.Raw.{buffer_in, ViewIn, halves_at, LeafIn}
 use Rattle.reading.specs.Readable.{EndsIn}
 
-all_prop : {X : Type 0} (P : X → Type 0) → ((x : X) → IsProp (P x)) → (xs : List X) → IsProp (All P xs)
+all_prop : {X : Type 0} (P : X → Type 0) → ((x : X) → IsProp (P x)) → (xs : List X) → IsProp (AllByRecursion P xs)
 all_prop P h [] = Unit-prop
 all_prop P h (x ∷ xs) = ×_prop (h x) (all_prop P h xs)
 

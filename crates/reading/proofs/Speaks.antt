@@ -2,7 +2,7 @@
 use Rattle.std.proofs.Common.{◌≡◌, ℕ, zero, suc, ◌+◌, ◌-◌, ◌*◌, ◌<◌, ◌≤◌, Bool, true, false, cond, not, List, [], ◌++◌, map, length, get_or, Some, None, codes, Option as Maybe, sym, refl, ap, ◌∙◌, subst, ap₂, mul-le-mul_right, suc-mul, arith}
 use mathlib.Core.Option.{Option, some, none}
 use lib.ListN.{length-map}
-use Rattle.std.specs.List.{AllByRecursion as All}
+use Rattle.std.specs.List.{AllByRecursion}
 use Rattle.std.proofs.lemmas.List.{get_or-map}
 use Rattle.formats.specs.declared.kind.Kind.{Kind}
 use Rattle.formats.specs.declared.kind.Kind.TheVariants.{Primitive, Boolean, Text, View as Viewed, List as Listed, Map, Struct, RunEnds, FixedList}
@@ -64,7 +64,7 @@ view_read P r n i s l =
     ∙ segment_at s i (short 0 []) l
 
 leaf_reads : (P : Store) (r : Entry) (k : Kind) (n : Node) (cs : Columns) (ends : List ℕ) (kids : List (ℕ → Said)) (i : ℕ) → shape_of k ≡ Leaf → BuffersLie P r k n →
-    KindSound (buffer_in P) (layout k) n cs → All (Inside P.bytes) P.buffers → i < n.rows → LeafReads P r k n ends kids i
+    KindSound (buffer_in P) (layout k) n cs → AllByRecursion (Inside P.bytes) P.buffers → i < n.rows → LeafReads P r k n ends kids i
 unfolding viewed
 leaf_reads P r (Primitive w) n cs ends kids i e b s a l =
     record {

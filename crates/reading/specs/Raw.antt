@@ -1,6 +1,6 @@
 -- Texts by what is read from the pools.
 use Rattle.std.specs.Prelude.{ℕ, zero, suc, ◌+◌, ◌/◌, ◌^◌, ◌<◌, Bool, true, false, List, [], ◌∷◌, ◌++◌, length, codes, slice_index, slice_index_or}
-use Rattle.std.specs.List.{flat_map, AllByRecursion as All}
+use Rattle.std.specs.List.{flat_map, AllByRecursion}
 use Rattle.formats.specs.declared.kind.Kind.{Kind}
 use Rattle.formats.specs.declared.kind.Kind.TheVariants.{Primitive, Boolean, Text, View as Viewed, List as Listed, Map, Struct, RunEnds, FixedList}
 use Rattle.formats.specs.Spelled.{bytes_of}
@@ -60,7 +60,7 @@ viewed P list h = view_text (buffer_in P) (part_of P.lists list) (view_from h)
 pub record ViewIn (P : Store) (list : Part) (h : Halves) : Type 0 where
   pub listed : Inside P.lists list
   pub sound : ViewSound (buffer_in P) (part_of P.lists list) (view_from h)
-  pub inside : All (Inside P.bytes) P.buffers
+  pub inside : AllByRecursion (Inside P.bytes) P.buffers
 
 abbrev pub halves_at : Store → ℕ → Halves
 halves_at P i = slice_index_or P.views i no_halves

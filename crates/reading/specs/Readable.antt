@@ -1,6 +1,6 @@
 -- A stored column that can be read, and what its rows say.
 use Rattle.std.specs.Prelude.{◌≡◌, ℕ, ◌+◌, ◌<◌, ◌≤◌, List, [], map}
-use Rattle.std.specs.List.{AllByRecursion as All}
+use Rattle.std.specs.List.{AllByRecursion}
 use Rattle.formats.specs.declared.kind.Kind.{Kind}
 use Rattle.formats.specs.declared.kind.Kind.TheVariants.{Primitive, Boolean, Text, View as Viewed, List as Listed, Map, Struct, RunEnds, FixedList}
 use Rattle.columns.specs.Column.{Column, Columns, width, rows_of}
@@ -24,7 +24,7 @@ pub record Readable (P : Store) (place : ℕ) (c : Column) (levels : ℕ) : Type
   pub stored : Stored P place c
   pub sound : Sound (buffer_in P) c
   pub shallow : depth c ≤ levels
-  pub inside : All (Inside P.bytes) P.buffers
+  pub inside : AllByRecursion (Inside P.bytes) P.buffers
 
 -- It has this row.
 pub record RowReadable (P : Store) (place : ℕ) (c : Column) (row levels : ℕ) : Type 0 where
@@ -42,7 +42,7 @@ pub record FieldsReadable (P : Store) (place : ℕ) (cs : Columns) (count row le
   pub stored : EachStored P place cs
   pub sound : EachSound (buffer_in P) cs
   pub shallow : depth_below cs ≤ levels
-  pub inside : All (Inside P.bytes) P.buffers
+  pub inside : AllByRecursion (Inside P.bytes) P.buffers
   pub rows : ℕ
   pub alike : RowsAre rows cs
   pub row_in : row < rows

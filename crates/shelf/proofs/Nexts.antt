@@ -1,7 +1,7 @@
 -- What one call more does to the ledger.
 use Rattle.std.proofs.Common.{◌≡◌, ℕ, List, [], ◌∷◌, ◌++◌, sym, refl, ap, ◌∙◌, subst}
 use mathlib.Core.Option.{some, none}
-use Rattle.std.specs.List.{AllByRecursion as All}
+use Rattle.std.specs.List.{AllByRecursion}
 use Rattle.std.proofs.ByRecursion.{All-append}
 use Rattle.columns.specs.Checks.{Denial}
 use Rattle.columns.specs.Pools.{Entries}
@@ -29,7 +29,7 @@ same_ledger : {calls : List Call} {p : Pools} {slip : ℕ} (c : Call) → ledger
 same_ledger {calls} {p} {slip} c e s =
     record {
       ready = s.ready;
-      of_bytes = subst (λ L. All OfBytes (lines L)) (sym e) s.of_bytes;
+      of_bytes = subst (λ L. AllByRecursion OfBytes (lines L)) (sym e) s.of_bytes;
       shows = subst (λ L. Shows (store p) (shelf_of L)) (sym e) s.shows;
     }
 
@@ -50,7 +50,7 @@ unfolding shelf_of
 accepted_stands {calls} {p} {q} {slip} l e same bytes ready shows s =
     record {
       ready = ready;
-      of_bytes = subst (λ L. All OfBytes (lines L)) (sym is) (All-append OfBytes (lines (ledger p slip calls)) (l ∷ []) s.of_bytes (bytes, tt));
+      of_bytes = subst (λ L. AllByRecursion OfBytes (lines L)) (sym is) (All-append OfBytes (lines (ledger p slip calls)) (l ∷ []) s.of_bytes (bytes, tt));
       shows = subst (λ L. Shows (store q) (shelf_of L)) (sym is) shows;
     }
   where

@@ -1,6 +1,6 @@
 -- Pools as a list of calls on a fresh shelf leaves them.
 use Rattle.std.specs.Prelude.{ℕ, List, [], ◌∷◌, ◌++◌}
-use Rattle.std.specs.List.{AllByRecursion as All}
+use Rattle.std.specs.List.{AllByRecursion}
 use Rattle.columns.specs.Pools.{Entries}
 use Rattle.columns.specs.Ledger.{Call, Ledger, empty, lines, shelf_of, after}
 use Rattle.columns.specs.Run.{OfBytes}
@@ -21,7 +21,7 @@ ledger p slip calls = after (lengths p slip) empty calls
 -- The marks are in range, every parcel was one of bytes, and what lies below the marks is the ledger's shelf.
 pub record Stands (calls : List Call) (p : Pools) (slip : ℕ) : Type 0 where
   pub ready : Ready p
-  pub of_bytes : All OfBytes (lines (ledger p slip calls))
+  pub of_bytes : AllByRecursion OfBytes (lines (ledger p slip calls))
   pub shows : Shows (store p) (shelf_of (ledger p slip calls))
 
 -- some calls led here

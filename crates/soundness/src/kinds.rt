@@ -1,6 +1,6 @@
 ghost use Rattle.std.specs.Prelude.{◌≡◌, ℕ, ◌+◌, ◌-◌, ◌*◌, ◌/◌, ◌<◌, ◌≤◌, List, ◌++◌, length};
 ghost use Rattle.std.proofs.Math.Option.{none};
-ghost use Rattle.std.specs.List.{AllByRecursion as All};
+ghost use Rattle.std.specs.List.{AllByRecursion};
 ghost use Rattle.columns.specs.Checks.{all_of};
 ghost use Rattle.columns.specs.SoundTests.{offsets_sound};
 ghost use Rattle.columns.specs.Contents.{values_in, views_in};
@@ -31,7 +31,7 @@ fn offsets_within(parcel: &[u8], d: Draft, width: Width, bound: u64) -> bool
 }
 
 fn views_within(parcel: &[u8], bytes: &[u8], buffers: &[Part], d: Draft) -> bool
-    requires { (Drafted parcel.now d) × ((d.parts.body.len ≡ 16 * d.head.rows) × (All (Within bytes.now) buffers.now)) }
+    requires { (Drafted parcel.now d) × ((d.parts.body.len ≡ 16 * d.head.rows) × (AllByRecursion (Within bytes.now) buffers.now)) }
     ensures { result ≡ all_of (view_fine (sources parcel.now bytes.now buffers.now d.parts.lent) d.parts.lent.len) (views_in d.head.rows (within parcel.now d.parts.body)) }
 {
     let start = d.parts.body.start;
@@ -48,7 +48,7 @@ fn views_within(parcel: &[u8], bytes: &[u8], buffers: &[Part], d: Draft) -> bool
 
 // Whether a node is sound as its kind asks. Its buffers are filled, and the data buffers that it names were shelved before.
 pub(crate) fn kind_sound(parcel: &[u8], bytes: &[u8], buffers: &[Part], d: Draft) -> bool
-    requires { (Drafted parcel.now d) × ((Filled d) × (All (Within bytes.now) buffers.now)) }
+    requires { (Drafted parcel.now d) × ((Filled d) × (AllByRecursion (Within bytes.now) buffers.now)) }
     ensures { (more : List (List ℕ)) → unshelved_in (length buffers.now) (data_of parcel.now (buffers_in bytes.now buffers.now ++ more) d) ≡ none
         → result ≡ kind_sound_in parcel.now (buffers_in bytes.now buffers.now ++ more) d }
 {

@@ -1,6 +1,6 @@
 // The checks that wait until the whole parcel is read, node by node.
 ghost use Rattle.std.specs.Prelude.{◌≡◌, ℕ, ◌+◌, ◌<◌, ◌≤◌, true, List, length};
-ghost use Rattle.std.specs.List.{AllByRecursion as All};
+ghost use Rattle.std.specs.List.{AllByRecursion};
 ghost use Rattle.columns.specs.Checks.{first_denial};
 ghost use Rattle.formats.specs.Spelled.{lifted};
 ghost use Rattle.pools.specs.Parts.{buffers_in};
@@ -49,7 +49,7 @@ pub fn first_denied(
     buffers: &[Part],
     drafts: &[Draft],
 ) -> Result<(), Denial>
-    requires { (All (Drafted parcel.now) drafts.now) × (All (Within bytes.now) buffers.now) }
+    requires { (AllByRecursion (Drafted parcel.now) drafts.now) × (AllByRecursion (Within bytes.now) buffers.now) }
     ensures { first_denial (checks_of parcel.now (length buffers.now) (buffers_in bytes.now buffers.now) 0 drafts.now) ≡ denial_in result }
 {
     for i in 0..drafts.len() {

@@ -1,6 +1,6 @@
 // Finding a data buffer of a node.
 ghost use Rattle.std.specs.Prelude.{◌≡◌, ℕ, ◌+◌, ◌-◌, ◌*◌, ◌/◌, ◌<◌, ◌≤◌, true, List, length};
-ghost use Rattle.std.specs.List.{AllByRecursion as All};
+ghost use Rattle.std.specs.List.{AllByRecursion};
 ghost use Rattle.parcels.specs.Reads.{Within};
 ghost use Rattle.parcels.specs.Lent.{data_size, place_of, readable};
 ghost use Rattle.soundness.specs.Sources.{Indexed, SentAt, source_at};
@@ -76,7 +76,7 @@ pub(crate) fn find(parcel: &[u8], lent: Part, places: &Places, position: usize) 
 
 // The bytes of the data buffer at a place: shelved before, or brought here. A number that was not shelved has none.
 pub(crate) fn source<'a>(parcel: &'a [u8], bytes: &'a [u8], buffers: &[Part], at: usize) -> &'a [u8]
-    requires { (at + data_size parcel.now at ≤ length parcel.now) × (All (Within bytes.now) buffers.now) }
+    requires { (at + data_size parcel.now at ≤ length parcel.now) × (AllByRecursion (Within bytes.now) buffers.now) }
     ensures { result.now ≡ source_at parcel.now bytes.now buffers.now at }
 {
     let number = match sent_at(parcel, at) {

@@ -1,5 +1,5 @@
 ghost use Rattle.std.specs.Prelude.{◌≡◌, ℕ, ◌+◌, ◌-◌, ◌*◌, ◌/◌, ◌<◌, ◌≤◌, true, ◌&&◌, List, length, ◌==◌, nat_le};
-ghost use Rattle.std.specs.List.{AllByRecursion as All};
+ghost use Rattle.std.specs.List.{AllByRecursion};
 ghost use Rattle.columns.specs.Checks.{all_of};
 ghost use Rattle.columns.specs.Says.{slice};
 ghost use Rattle.columns.specs.Sound.{little_endian};
@@ -38,7 +38,7 @@ fn sound_view(
     requires listed { readable parcel.now lent.start lent.len ≡ true }
     requires few { lent.len < 65536 }
     requires indexed { Indexed parcel.now lent places.now }
-    requires inside { All (Within bytes.now) buffers.now }
+    requires inside { AllByRecursion (Within bytes.now) buffers.now }
     ensures { result ≡ view_fine (sources parcel.now bytes.now buffers.now lent) lent.len (view_in view.now) }
 {
     let len = four(view);
@@ -72,7 +72,7 @@ pub(crate) fn sound_views(
     requires size { length views.now ≡ 16 * rows }
     requires listed { readable parcel.now lent.start lent.len ≡ true }
     requires few { lent.len < 65536 }
-    requires inside { All (Within bytes.now) buffers.now }
+    requires inside { AllByRecursion (Within bytes.now) buffers.now }
     requires low { rows ≤ 1048576 }
     ensures { result ≡ all_of (view_fine (sources parcel.now bytes.now buffers.now lent) lent.len) (views_in rows views.now) }
 {

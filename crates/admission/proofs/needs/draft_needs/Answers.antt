@@ -1,5 +1,5 @@
 use Rattle.std.proofs.Common.{ℕ, ◌+◌, ◌<◌, ◌≤◌, sym, ap, ◌∙◌, subst, arith}
-use Rattle.std.specs.List.{AllByRecursion as All}
+use Rattle.std.specs.List.{AllByRecursion}
 use Rattle.admission.specs.Needs.{kind_entries, mask_need, new_bytes}
 use Rattle.admission.proofs.Counting.{kind_low}
 use Rattle.admission.proofs.needs.draft_needs.Goals as goal
@@ -17,5 +17,5 @@ returns c =
           ∙ ap (λ (m : ℕ). kind_entries d.kind (m + d.head.format.len + c.brought-new.result.1) d.head.rows d.parts.text.len d.parts.lent.len c.brought-new.result.0) c.mask_bytes.ensures.is
           ∙ ap (λ (m : ℕ). kind_entries d.kind (mask_need d.parts.mask d.head.rows + d.head.format.len + m) d.head.rows d.parts.text.len d.parts.lent.len c.brought-new.result.0) b.is.1
           ∙ ap (λ (m : ℕ). kind_entries d.kind (mask_need d.parts.mask d.head.rows + d.head.format.len + new_bytes parcel d.parts.lent) d.head.rows d.parts.text.len d.parts.lent.len m) b.is.0;
-      low = subst (All (λ (v : ℕ). v ≤ 281474976710656)) (sym c.kind_needs.ensures) (kind_low base d.head.rows d.parts.text.len d.parts.lent.len c.brought-new.result.0 low c.requires.rows c.requires.parts.brief c.requires.parts.few b.low.0 d.kind);
+      low = subst (AllByRecursion (λ (v : ℕ). v ≤ 281474976710656)) (sym c.kind_needs.ensures) (kind_low base d.head.rows d.parts.text.len d.parts.lent.len c.brought-new.result.0 low c.requires.rows c.requires.parts.brief c.requires.parts.few b.low.0 d.kind);
     }

@@ -1,5 +1,5 @@
 use Rattle.std.proofs.Common.{ℕ, ◌+◌, ◌*◌, ◌≤◌, get_or, sym, ◌∙◌, subst, arith}
-use Rattle.std.specs.List.{AllByRecursion as All}
+use Rattle.std.specs.List.{AllByRecursion}
 use Rattle.std.proofs.lemmas.List.{drop_more}
 use Rattle.std.proofs.ByRecursion.{All-get_or}
 use Rattle.columns.specs.Pools.{plus}
@@ -25,7 +25,7 @@ loop-i-preserved c =
     let t = c.loop-i.total in
     let o = c.draft_needs.result in (
       sym (add_more c.args.parcel.now D i t o c.add-total.result (get_or D i blank) (drop_more D i blank c.loop-i-test.true) c.draft_needs.ensures.is c.add-total.ensures) ∙ c.loop-i.invariant.0,
-      subst (All (λ (v : ℕ). v ≤ (i + 1) * 281474976710656 + 1)) (sym c.add-total.ensures)
+      subst (AllByRecursion (λ (v : ℕ). v ≤ (i + 1) * 281474976710656 + 1)) (sym c.add-total.ensures)
           (all_below (i * 281474976710656 + 1 + 281474976710656) ((i + 1) * 281474976710656 + 1) (plus (listed t) (listed o)) (omega arith)
           (plus_most (i * 281474976710656 + 1) 281474976710656 t o c.loop-i.invariant.1 c.draft_needs.ensures.low)),
     )

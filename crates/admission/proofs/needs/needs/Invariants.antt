@@ -1,5 +1,5 @@
 use Rattle.std.proofs.Common.{◌≡◌, ◌+◌, ◌*◌, ◌≤◌, drop}
-use Rattle.std.specs.List.{AllByRecursion as All}
+use Rattle.std.specs.List.{AllByRecursion}
 use Rattle.columns.specs.Pools.{plus, one_column}
 use Rattle.admission.specs.Needs.{listed, drafts_need}
 use Rattle.admission.proofs.needs.needs.Given as goal
@@ -7,4 +7,4 @@ use Rattle.admission.proofs.needs.needs.Given as goal
 abbrev pub invariant-loop-i : goal.invariant-loop-i
 invariant-loop-i l =
     (plus (listed l.total) (drafts_need l.parcel (drop l.i l.drafts)) ≡ plus one_column (drafts_need l.parcel l.drafts))
-    × All (λ v. v ≤ l.i * 281474976710656 + 1) (listed l.total)
+    × AllByRecursion (λ v. v ≤ l.i * 281474976710656 + 1) (listed l.total)

@@ -4,7 +4,7 @@ use Rattle.columns.specs.Reading.{denied}
 use Rattle.denials.specs.declared.Denial.{Denial}
 use Rattle.denials.specs.Said.{said}
 use native.Mathlib.Nat.{sub-zero}
-use Rattle.std.specs.List.{AllByRecursion as All}
+use Rattle.std.specs.List.{AllByRecursion}
 use Rattle.parcels.specs.Drafts.{Drafted}
 use Rattle.parcels.proofs.Outline.{outline_left, outlined}
 use Rattle.parcels.proofs.node.outline.Goals as goal
@@ -25,4 +25,4 @@ returns-in_err-at_end c =
 pub returns : goal.returns
 returns c =
     let e = c.in_ok-_rows.ensures in
-    record { reads = λ shelved. outlined shelved c.args.parcel.now c.in_ok-_rows._rows c.in_ok-_rows.end c.node.new.drafts (e.reads shelved (length shelved)) c.in_ok-at_end.ensures; inside = (e.inside.few, subst (λ (n : ℕ). All (Drafted c.args.parcel.now) (take n c.node.new.drafts)) (sub-zero c.in_ok-_rows.end.nodes) e.inside.good) }
+    record { reads = λ shelved. outlined shelved c.args.parcel.now c.in_ok-_rows._rows c.in_ok-_rows.end c.node.new.drafts (e.reads shelved (length shelved)) c.in_ok-at_end.ensures; inside = (e.inside.few, subst (λ (n : ℕ). AllByRecursion (Drafted c.args.parcel.now) (take n c.node.new.drafts)) (sub-zero c.in_ok-_rows.end.nodes) e.inside.good) }
