@@ -14,7 +14,7 @@ use Rattle.columns.specs.Interleave.{source_ranges}
 use Rattle.columns.specs.Sound.{Offsets, KindSound}
 use Rattle.columns.specs.Chain.{gathered_ranges, followed}
 use Rattle.columns.specs.Limits.{most_rows}
-use Rattle.columns.specs.ListKind.{Ranged, ListKind, asked, offset_list, fixed_list, list_of, pooled_list, ListsAreListKinds, no_list, source, ranges_of, Inside, row_start, row_size, child_rows, total, Laid_out, gathered_list, GatheredFrom, GatheringKeepsRanges, GatheringExamples}
+use Rattle.columns.specs.ListKind.{Ranged, ListKind, asked, offset_list, fixed_list, list_of, pooled_list, ListsAreListKinds, no_list, source, ranges_of, Inside, row_start, row_size, child_rows, total, LaidOut, gathered_list, GatheredFrom, GatheringKeepsRanges, GatheringExamples}
 use Rattle.columns.proofs.Gather.{before, before_more, before_fixed, totals_at, length_totals, gathered_length, map_same}
 use Rattle.columns.proofs.Follow.{joined_both, gathered_at, made_size, gathering_from_gathered}
 
@@ -141,7 +141,7 @@ module _ (Ls : List Ranged) (ps : List Pair) where
         | inr b ↦ (n, omega arith, b, subst (λ i. m < total Ls ps i) (sym (add-one n)) l)
       ]
 
-  laid_out : Laid_out Ls ps
+  laid_out : LaidOut Ls ps
   laid_out =
       record {
         total_count = (let z = size_count in let e = length_totals 0 (sizes R ps) in omega arith);

@@ -87,7 +87,7 @@ abbrev pub total : List Ranged → List Pair → ℕ → ℕ
 total Ls ps k = slice_index (totals (ranges_of Ls) ps) k
 
 -- Totals k and k + 1 bound exactly the child rows of pair k's range, in order.
-pub record Laid_out (Ls : List Ranged) (ps : List Pair) : Type 0 where
+pub record LaidOut (Ls : List Ranged) (ps : List Pair) : Type 0 where
   pub total_count : length (totals (ranges_of Ls) ps) ≡ length ps + 1
   pub first_total : total Ls ps 0 ≡ 0
   pub next_total : (k : ℕ) → k < length ps → total Ls ps (k + 1) ≡ total Ls ps k + row_size Ls (pair ps k)
@@ -108,7 +108,7 @@ pub record GatheredFrom (Ls : List Ranged) (ps : List Pair) (G : Ranged) : Type 
   pub sizes_are : (k : ℕ) → k < length ps → G.ranges.size k ≡ row_size Ls (pair ps k)
 
 pub record GatheringKeepsRanges : Type 0 where
-  pub laid_out : (Ls : List Ranged) (ps : List Pair) → Laid_out Ls ps
+  pub laid_out : (Ls : List Ranged) (ps : List Pair) → LaidOut Ls ps
   -- every gathered pair names a known source, and a row of its child
   pub inside_child : (Ls : List Ranged) (ps : List Pair) → AllByRecursion ListKind Ls → Inside Ls ps → (m : ℕ) → m < length (child_rows Ls ps) →
       ((pair (child_rows Ls ps) m).0 < length Ls) × ((pair (child_rows Ls ps) m).1 < (source Ls (pair (child_rows Ls ps) m).0).child)

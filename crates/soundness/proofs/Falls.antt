@@ -85,15 +85,15 @@ below_half top half p =
 pub length_bits : (n : ℕ) (bytes : List ℕ) → length (bits_in n bytes) ≡ n
 length_bits n bytes = length-map (span 0 n) (bit_at bytes) ∙ length_span 0 n
 
-pub get_d_bits : (n i : ℕ) (bytes : List ℕ) → i < n → get_or (bits_in n bytes) i false ≡ bit_at bytes i
-get_d_bits n i bytes h =
+pub get_or_bits : (n i : ℕ) (bytes : List ℕ) → i < n → get_or (bits_in n bytes) i false ≡ bit_at bytes i
+get_or_bits n i bytes h =
     get_or-map (bit_at bytes) (span 0 n) i 0 false (rw length_span h) ∙ ap (bit_at bytes) (get_or_span 0 n i h ∙ omega arith)
 
 module _ (n : ℕ) (bytes : List ℕ) (i : ℕ) (b : Bool) (h : i < n) (e : b ≡ bit_at bytes i) (r : some_null (bits_in n bytes) ≡ some_null (drop i (bits_in n bytes))) where
   null_opens : some_null (bits_in n bytes) ≡ (not b || some_null (drop (i + 1) (bits_in n bytes)))
   null_opens =
       r ∙ at_drop_more some_null (bits_in n bytes) i false (rw (length_bits n bytes) h)
-      ∙ ap (λ (x : Bool). not x || some_null (drop (i + 1) (bits_in n bytes))) (get_d_bits n i bytes h ∙ sym e)
+      ∙ ap (λ (x : Bool). not x || some_null (drop (i + 1) (bits_in n bytes))) (get_or_bits n i bytes h ∙ sym e)
 
   pub null_more : b ≡ true → some_null (bits_in n bytes) ≡ some_null (drop (i + 1) (bits_in n bytes))
   null_more t = null_opens ∙ ap (λ (x : Bool). not x || some_null (drop (i + 1) (bits_in n bytes))) t
