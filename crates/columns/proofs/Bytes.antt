@@ -5,7 +5,7 @@ use lib.ListN.{length-reverse}
 use lib.IntN.{sub_ℕ}
 use lib.Signed.{le_z, le_z_yes}
 use mir.Syntax.{Width, w128}
-use mir.Val.{hbits, sel, bits as width-bits, bytes as width-bytes}
+use mir.Val.{hbits, sel, bits as width_bits, bytes as width_bytes}
 use Rattle.std.specs.List.{flat_map, AllByRecursion}
 use Rattle.std.specs.Int.Digits.{AllBelowBase}
 use Rattle.std.proofs.lemmas.List.{take_at, drop_at, take-take, take_all, drop-drop, drop-take, nil_from_length, reverse-append, reverse-reverse, get_or-reverse}
@@ -249,33 +249,33 @@ last_bit (b ∷ bs) n u =
     ((λ l. (top_bit b bs u).0 (omega arith)), λ l. let r = (top_bit b bs u).1 l in omega arith)
 
 -- the widths of the machine's numbers
-width_half : (w : Width) → 2 ^ (8 * width-bytes w - 1) ≡ 2 ^ hbits w
+width_half : (w : Width) → 2 ^ (8 * width_bytes w - 1) ≡ 2 ^ hbits w
 width_half w8 = refl
 width_half w16 = refl
 width_half w32 = refl
 width_half w64 = refl
 width_half w128 = refl
 
-width_whole : (w : Width) → 256 ^ width-bytes w ≡ 2 ^ width-bits w
+width_whole : (w : Width) → 256 ^ width_bytes w ≡ 2 ^ width_bits w
 width_whole w8 = refl
 width_whole w16 = refl
 width_whole w32 = refl
 width_whole w64 = refl
 width_whole w128 = refl
 
-width_some : (w : Width) → 0 < width-bytes w
+width_some : (w : Width) → 0 < width_bytes w
 width_some w8 = omega arith
 width_some w16 = omega arith
 width_some w32 = omega arith
 width_some w64 = omega arith
 width_some w128 = omega arith
 
-as_cast : (w : Width) (bytes : List ℕ) → length bytes ≡ width-bytes w → AllBelowBase 256 bytes → signed bytes ≡ to_z w (little_endian bytes)
+as_cast : (w : Width) (bytes : List ℕ) → length bytes ≡ width_bytes w → AllBelowBase 256 bytes → signed bytes ≡ to_z w (little_endian bytes)
 as_cast w bytes e u =
     elim (cases_lt (little_endian bytes) (2 ^ hbits w)) [
-      | inl l ↦ same_signed bytes some u (subst (λ n. little_endian bytes < n) (sym half) l) ∙ sym (ap (λ t. sel t (pos (little_endian bytes)) (negsuc (2 ^ width-bits w - suc (little_endian bytes)))) (lt-ltb (little_endian bytes) (2 ^ hbits w) l))
+      | inl l ↦ same_signed bytes some u (subst (λ n. little_endian bytes < n) (sym half) l) ∙ sym (ap (λ t. sel t (pos (little_endian bytes)) (negsuc (2 ^ width_bits w - suc (little_endian bytes)))) (lt-ltb (little_endian bytes) (2 ^ hbits w) l))
       | inr l ↦ other_signed bytes some u (subst (λ n. n ≤ little_endian bytes) (sym half) l)
-          ∙ ap (λ n. negsuc (n - suc (little_endian bytes))) (ap (λ n. 256 ^ n) e ∙ width_whole w) ∙ sym (ap (λ t. sel t (pos (little_endian bytes)) (negsuc (2 ^ width-bits w - suc (little_endian bytes)))) (le-ltb (little_endian bytes) (2 ^ hbits w) l))
+          ∙ ap (λ n. negsuc (n - suc (little_endian bytes))) (ap (λ n. 256 ^ n) e ∙ width_whole w) ∙ sym (ap (λ t. sel t (pos (little_endian bytes)) (negsuc (2 ^ width_bits w - suc (little_endian bytes)))) (le-ltb (little_endian bytes) (2 ^ hbits w) l))
     ]
   where
     some : 0 < length bytes

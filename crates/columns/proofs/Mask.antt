@@ -28,9 +28,9 @@ no_source_null [] s h = refl
 no_source_null (c ∷ S) zero h = (or_parts (has_null (node c)) (any_null S) h).0
 no_source_null (c ∷ S) (suc s) h = no_source_null S s (or_parts (has_null (node c)) (any_null S) h).1
 
-pub valid_made : (in_List : Bool) (K : Kind) (n : Node) (S : List Column) (ps : List Pair) (k : ℕ) → k < length ps →
-    valid (made_node in_List K n S ps) k ≡ valid (node (at S (get_or ps k (0, 0)).0)) (get_or ps k (0, 0)).1
-valid_made in_List K n S ps k h = made_mask_valid (needs_mask in_List K S ps) (rows_taken S valid ps) k unneeded ∙ there
+pub valid_made : (in_list : Bool) (K : Kind) (n : Node) (S : List Column) (ps : List Pair) (k : ℕ) → k < length ps →
+    valid (made_node in_list K n S ps) k ≡ valid (node (at S (get_or ps k (0, 0)).0)) (get_or ps k (0, 0)).1
+valid_made in_list K n S ps k h = made_mask_valid (needs_mask in_list K S ps) (rows_taken S valid ps) k unneeded ∙ there
   where
     there : get_or (rows_taken S valid ps) k true ≡ valid (node (at S (get_or ps k (0, 0)).0)) (get_or ps k (0, 0)).1
     there = get_or-map (λ (p : Pair). valid (node (at S p.0)) p.1) ps k (0, 0) true h
@@ -39,5 +39,5 @@ valid_made in_List K n S ps k h = made_mask_valid (needs_mask in_List K S ps) (r
     go true e = no_null (rows_taken S valid ps) k e
     go false e = there ∙ no_null_mask (node (at S (get_or ps k (0, 0)).0)).mask (get_or ps k (0, 0)).1 (no_source_null S (get_or ps k (0, 0)).0 e)
 
-    unneeded : needs_mask in_List K S ps ≡ false → get_or (rows_taken S valid ps) k true ≡ true
-    unneeded e = go (in_List && is_primitive K) e
+    unneeded : needs_mask in_list K S ps ≡ false → get_or (rows_taken S valid ps) k true ≡ true
+    unneeded e = go (in_list && is_primitive K) e

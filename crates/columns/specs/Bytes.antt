@@ -2,7 +2,7 @@
 use Rattle.std.specs.Prelude.{◌≡◌, ℕ, zero, suc, ◌+◌, ◌-◌, ◌*◌, ◌/◌, ◌%◌, ◌^◌, ◌<◌, ◌≤◌, min, Bool, true, false, ◌↔◌, List, [], ◌∷◌, ◌++◌, map, reverse, length, take, drop, ℤ, pos, negsuc, ◌≤ℤ◌, bit_and, slice_index, slice_index_or}
 use Rattle.std.proofs.Math.IntN.{sub_ℕ}
 use Rattle.std.specs.Int.{Width}
-use mir.Val.{to_z, bytes as width-bytes}
+use mir.Val.{to_z, bytes as width_bytes}
 use Rattle.std.specs.List.{flat_map, AllByRecursion}
 use Rattle.std.specs.Int.Digits.{AllBelowBase}
 use Rattle.columns.specs.Column.{View, short, long, view_of, bytes_for}
@@ -89,7 +89,7 @@ pub record NumbersReadBack : Type 0 where
   pub same_signed : (bytes : List ℕ) → 0 < length bytes → AllBelowBase 256 bytes → little_endian bytes < 2 ^ (8 * length bytes - 1) → signed bytes ≡ pos (little_endian bytes)
   pub not_below_zero : (bytes : List ℕ) → 0 < length bytes → AllBelowBase 256 bytes → (pos 0 ≤ℤ signed bytes) ↔ (little_endian bytes < 2 ^ (8 * length bytes - 1))
   pub top_bit : (bytes : List ℕ) → 0 < length bytes → AllBelowBase 256 bytes → (slice_index bytes (length bytes - 1) < 128) ↔ (little_endian bytes < 2 ^ (8 * length bytes - 1))
-  pub as_cast : (w : Width) (bytes : List ℕ) → length bytes ≡ width-bytes w → AllBelowBase 256 bytes → signed bytes ≡ to_z w (little_endian bytes)
+  pub as_cast : (w : Width) (bytes : List ℕ) → length bytes ≡ width_bytes w → AllBelowBase 256 bytes → signed bytes ≡ to_z w (little_endian bytes)
 
 -- A view lies in 16 bytes, two numbers of 64 bits: its length and prefix, and its position and offset. In a short view
 -- the 12 bytes after the length are kept as they are, whatever stands after the text.

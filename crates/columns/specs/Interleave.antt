@@ -46,13 +46,13 @@ made_buffers (fixed_lists N) S ps = no_buffers
 made_buffers unknown S ps = no_buffers
 
 -- A mask is made exactly when some source's node has a null; for a primitive child of a list, when a copied row is null.
-abbrev pub needs_mask : (in_List : Bool) → Kind → List Column → List Pair → Bool
-needs_mask in_List K S ps = cond (in_List && is_primitive K) (some_null (rows_taken S valid ps)) (any_null S)
+abbrev pub needs_mask : (in_list : Bool) → Kind → List Column → List Pair → Bool
+needs_mask in_list K S ps = cond (in_list && is_primitive K) (some_null (rows_taken S valid ps)) (any_null S)
 
 -- The made node. It has no spare bits: past its rows, the bits of its mask and booleans are 0.
-abbrev pub made_node : (in_List : Bool) → Kind → Node → List Column → List Pair → Node
-made_node in_List K n S ps =
-    node_with n.format n.label (length ps) (made_mask (needs_mask in_List K S ps) (rows_taken S valid ps)) [] (made_buffers K S ps)
+abbrev pub made_node : (in_list : Bool) → Kind → Node → List Column → List Pair → Node
+made_node in_list K n S ps =
+    node_with n.format n.label (length ps) (made_mask (needs_mask in_list K S ps) (rows_taken S valid ps)) [] (made_buffers K S ps)
 
 -- the pairs by which the children are made
 abbrev pub child_pairs : Kind → List Column → List Pair → List Pair
@@ -73,16 +73,16 @@ ends_column n es = column (node_with n.format n.label (length es) none [] (only_
 
 -- Source 0 gives format and label; the sources' children are taken alongside its own.
 unfoldable mutual
-  pub interleaved : (in_List : Bool) → Column → List Column → List Pair → Column
-  interleaved in_List (column n cs) S ps =
-      column (made_node in_List (kind n) n S ps)
+  pub interleaved : (in_list : Bool) → Column → List Column → List Pair → Column
+  interleaved in_list (column n cs) S ps =
+      column (made_node in_list (kind n) n S ps)
       (cond (is_run_ended (kind n))
       (made_runs cs (run_ends_from 0 (entries S ps)) (map children S) (kept (entries S ps)))
       (made_children (is_list (kind n)) cs (map children S) (child_pairs (kind n) S ps)))
 
-  pub made_children : (in_List : Bool) → Columns → List Columns → List Pair → Columns
-  made_children in_List end kids qs = end
-  made_children in_List (c & cs) kids qs = interleaved in_List c (map first kids) qs & made_children in_List cs (map rest kids) qs
+  pub made_children : (in_list : Bool) → Columns → List Columns → List Pair → Columns
+  made_children in_list end kids qs = end
+  made_children in_list (c & cs) kids qs = interleaved in_list c (map first kids) qs & made_children in_list cs (map rest kids) qs
 
   pub made_runs : Columns → (ends : List ℕ) → List Columns → List Pair → Columns
   made_runs end ends kids qs = end

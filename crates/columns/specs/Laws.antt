@@ -16,20 +16,20 @@ use Rattle.columns.specs.Promises.{Accepted}
 -- A law of every made node, whatever its depth: of the node, of whether it is a list's child, and of the sources and
 -- pairs by which it was made. The first child of run ends holds the run ends, and is no interleave of anything.
 abbrev pub Law : Type 1
-Law = (in_List : Bool) → Column → List Column → List Pair → Type 0
+Law = (in_list : Bool) → Column → List Column → List Pair → Type 0
 
 unfoldable mutual
-  pub AtEveryDepth : Law → (in_List : Bool) → Column → Column → List Column → List Pair → Type 0
-  AtEveryDepth L in_List made (column n cs) S ps =
-      L in_List made S ps
+  pub AtEveryDepth : Law → (in_list : Bool) → Column → Column → List Column → List Pair → Type 0
+  AtEveryDepth L in_list made (column n cs) S ps =
+      L in_list made S ps
       × cond (is_run_ended (kind n))
       (AtRunValues L (children made) cs (map children S) (kept (entries S ps)))
       (AtEveryChild L (is_list (kind n)) (children made) cs (map children S) (child_pairs (kind n) S ps))
 
   pub AtEveryChild : Law → Bool → Columns → Columns → List Columns → List Pair → Type 0
-  AtEveryChild L in_List made end kids qs = Unit {0}
-  AtEveryChild L in_List made (c & cs) kids qs =
-      AtEveryDepth L in_List (first made) c (map first kids) qs × AtEveryChild L in_List (rest made) cs (map rest kids) qs
+  AtEveryChild L in_list made end kids qs = Unit {0}
+  AtEveryChild L in_list made (c & cs) kids qs =
+      AtEveryDepth L in_list (first made) c (map first kids) qs × AtEveryChild L in_list (rest made) cs (map rest kids) qs
 
   pub AtRunValues : Law → Columns → Columns → List Columns → List Pair → Type 0
   AtRunValues L made end kids qs = Unit {0}
@@ -68,7 +68,7 @@ held unknown n i = nothing_own
 
 -- Row k is null where pair k's row is, and takes what that holds, under a null too.
 abbrev pub RowLaw : Law
-RowLaw in_List made S ps =
+RowLaw in_list made S ps =
     (k : ℕ) → k < length ps →
     (valid (node made) k ≡ valid (node (at S (pair ps k).0)) (pair ps k).1)
     × (held (kind (node made)) (node made) k ≡ held (kind (node made)) (node (at S (pair ps k).0)) (pair ps k).1)
@@ -81,7 +81,7 @@ abbrev pub RunStops : List Pair → ℕ → Type 0
 RunStops es k = (suc k ≡ length es) ⊎ (pair es k ≢ pair es (suc k))
 
 abbrev pub RunLaw : Law
-RunLaw in_List made S ps =
+RunLaw in_list made S ps =
     kind (node made) ≡ run_ended →
     Climbs 0 (ends_of (children made)) (length ps)
     × ((k : ℕ) → k < length ps → In (suc k) (ends_of (children made)) ↔ RunStops (entries S ps) k)
@@ -105,7 +105,7 @@ ByFirstUse us (b ∷ bs) = UsedLater us b bs × ByFirstUse us bs
 -- A view node's long views, null or not, use the buffers that the rows taken claim, in pair order; it lists exactly these,
 -- once each, in first-use order.
 abbrev pub BufferLaw : Law
-BufferLaw in_List made S ps =
+BufferLaw in_list made S ps =
     kind (node made) ≡ views →
     (uses (node made) ≡ claims S ps)
     × ((b : ℕ) → In b (node made).buffers ↔ In b (uses (node made)))
@@ -116,7 +116,7 @@ BuffersListedByFirstUse = OfEveryInterleave BufferLaw
 
 -- The offsets of byte strings, lists and maps are the running totals, from 0, of the lengths of the rows taken.
 abbrev pub OffsetLaw : Law
-OffsetLaw in_List made S ps = has_offsets (kind (node made)) ≡ true → (node made).offsets ≡ totals (source_ranges (kind (node made)) S) ps
+OffsetLaw in_list made S ps = has_offsets (kind (node made)) ≡ true → (node made).offsets ≡ totals (source_ranges (kind (node made)) S) ps
 
 abbrev pub OffsetsAreTotals : Type 0
 OffsetsAreTotals = OfEveryInterleave OffsetLaw
@@ -133,7 +133,7 @@ pub record Empty (n : Node) : Type 0 where
   pub no_buffers : n.buffers ≡ []
 
 abbrev pub EmptyLaw : Law
-EmptyLaw in_List made S ps = length ps ≡ 0 → Empty (node made)
+EmptyLaw in_list made S ps = length ps ≡ 0 → Empty (node made)
 
 abbrev pub NoPairsMakeEmpty : Type 0
 NoPairsMakeEmpty = OfEveryInterleave EmptyLaw
@@ -150,10 +150,10 @@ abbrev pub CopiedNull : List Column → List Pair → Type 0
 CopiedNull S ps = (k : ℕ) × (k < length ps) × (valid (node (at S (pair ps k).0)) (pair ps k).1 ≡ false)
 
 abbrev pub MaskLaw : Law
-MaskLaw in_List made S ps =
+MaskLaw in_list made S ps =
     (length ps ≡ 0 → (node made).mask ≡ none)
-    × (0 < length ps → (in_List && is_primitive (kind (node made))) ≡ true → Masked (node made) ↔ CopiedNull S ps)
-    × (0 < length ps → (in_List && is_primitive (kind (node made))) ≡ false → Masked (node made) ↔ SourceNull S)
+    × (0 < length ps → (in_list && is_primitive (kind (node made))) ≡ true → Masked (node made) ↔ CopiedNull S ps)
+    × (0 < length ps → (in_list && is_primitive (kind (node made))) ≡ false → Masked (node made) ↔ SourceNull S)
 
 abbrev pub MasksMadeWhereNeeded : Type 0
 MasksMadeWhereNeeded = OfEveryInterleave MaskLaw

@@ -78,7 +78,7 @@ fn row_of(rows: Part, k: usize) -> usize
 }
 
 // A row. A child has one level less.
-#[cycle(put_fields_put_row_put_rows)]
+#[cycle(nesting)]
 pub(crate) fn put_row(pools: &Pools<'_>, pen: &mut Pen<'_>, place: usize, row: usize, levels: u8)
     requires ready { Ready pools.now }
     requires given { ∥ ((c : Column) × RowReadable (store pools.now) place c row levels) ∥₁ }
@@ -111,7 +111,7 @@ pub(crate) fn put_row(pools: &Pools<'_>, pen: &mut Pen<'_>, place: usize, row: u
 }
 
 // Some rows of the column at a place, with commas between.
-#[cycle(put_fields_put_row_put_rows)]
+#[cycle(nesting)]
 fn put_rows(pools: &Pools<'_>, pen: &mut Pen<'_>, place: usize, rows: Part, levels: u8)
     requires ready { Ready pools.now }
     requires given { ∥ ((c : Column) × RowsReadable (store pools.now) place c rows levels) ∥₁ }
@@ -127,7 +127,7 @@ fn put_rows(pools: &Pools<'_>, pen: &mut Pen<'_>, place: usize, rows: Part, leve
 }
 
 // A row of each of some columns that lie one after the other, with commas between.
-#[cycle(put_fields_put_row_put_rows)]
+#[cycle(nesting)]
 fn put_fields(pools: &Pools<'_>, pen: &mut Pen<'_>, first: usize, count: u8, row: usize, levels: u8)
     requires ready { Ready pools.now }
     requires given { ∥ ((cs : Columns) × FieldsReadable (store pools.now) first cs count row levels) ∥₁ }

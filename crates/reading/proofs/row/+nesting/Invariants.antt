@@ -4,7 +4,7 @@ use Rattle.pools.specs.Store.{store}
 use Rattle.reading.specs.Inked.{wrote}
 use Rattle.reading.specs.Readable.{RowsReadable, FieldsReadable, rows_text}
 use Rattle.reading.proofs.Walks.{rows_left, FieldsLeft}
-use Rattle.reading.proofs.row.+put_fields_put_row_put_rows.Given as goal
+use Rattle.reading.proofs.row.+nesting.Given as goal
 
 abbrev pub decreases-put_row : goal.decreases-put_row
 decreases-put_row l = 2 * l.levels

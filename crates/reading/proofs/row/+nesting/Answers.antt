@@ -16,7 +16,7 @@ use Rattle.reading.proofs.Pens.{wrote_full, step, last, piece}
 use Rattle.reading.proofs.Views.{few}
 use Rattle.reading.proofs.Walks.{comma_is, rows_left, rows_start, rows_next, rows_end, row_of_rows, texts_of, fields_start, field_first, fields_next, fields_end}
 use Rattle.reading.proofs.Speaks.{held, known, deep, shape_at, null_at, part_at, mask_there, null_text, leaf_there, leaf_row, range_there, rows_given, ranges_row, fields_given, fields_row, ends_stored, ends_there, two_children, run_given, runs_row}
-use Rattle.reading.proofs.row.+put_fields_put_row_put_rows.Goals as goal
+use Rattle.reading.proofs.row.+nesting.Goals as goal
 
 -- A row of each of some columns.
 pub put_fields-loop-k-init : goal.put_fields-loop-k-init
