@@ -1,10 +1,10 @@
 -- What storing needs to know of an accepted parcel, and that it has at most one proof.
-use Rattle.std.proofs.Common.{ℕ, ◌≤◌, List, [], ◌∷◌, map, length, Some, None, Option}
-use mathlib.Core.HLevel.{×_prop, Unit-prop}
+use Rattle.std.proofs.Common.{ℕ, ◌≤◌, List, map, length, Some, None, Option}
+use mathlib.Core.HLevel.{Unit-prop}
 use mathlib.Core.Logic.{∥∥₁_elim}
 use native.Mathlib.Nat.{ℕ_set}
 use native.Mathlib.Bridge.{le_prop}
-use Rattle.std.specs.List.{AllByRecursion}
+use Rattle.std.specs.List.{AllByRecursion, AllByRecursion-prop}
 use Rattle.columns.specs.Ledger.{Shelf}
 use Rattle.pools.specs.declared.pool.Pool.{Pool}
 use Rattle.pools.specs.declared.pools.Pools.{Pools}
@@ -26,10 +26,6 @@ pub record Plain (p : Pools) (parcel : List ℕ) (ds : List Draft) : Type 0 wher
   pub column_room : Fit p.columns 1
   pub room : Fits p (takes_all parcel ds)
   pub low : AllByRecursion (λ (s : ℕ). s ≤ 256) (spans_of (map children_in ds))
-
-all_prop : {X : Type 0} (P : X → Type 0) → ((x : X) → IsProp (P x)) → (xs : List X) → IsProp (AllByRecursion P xs)
-all_prop P h [] = Unit-prop
-all_prop P h (x ∷ xs) = ×_prop (h x) (all_prop P h xs)
 
 fit_prop : {X : Type 0} (p : Pool X) (n : ℕ) → IsProp (Fit p n)
 fit_prop p n = λ x y i. record { lent = le_prop x.lent y.lent i; capped = le_prop x.capped y.capped i }
@@ -59,10 +55,10 @@ filled_prop d = λ x y i. record { mask = mask_filled_prop d.parts.mask d.head.r
 plain_prop : (p : Pools) (parcel : List ℕ) (ds : List Draft) → IsProp (Plain p parcel ds)
 plain_prop p parcel ds = λ x y i.
     record {
-      filled = all_prop Filled filled_prop ds x.filled y.filled i;
+      filled = AllByRecursion-prop Filled filled_prop ds x.filled y.filled i;
       column_room = fit_prop p.columns 1 x.column_room y.column_room i;
       room = fits_prop p (takes_all parcel ds) x.room y.room i;
-      low = all_prop (λ (s : ℕ). s ≤ 256) (λ s. le_prop) (spans_of (map children_in ds)) x.low y.low i;
+      low = AllByRecursion-prop (λ (s : ℕ). s ≤ 256) (λ s. le_prop) (spans_of (map children_in ds)) x.low y.low i;
     }
 
 pub plain : (p : Pools) (parcel : List ℕ) (ds : List Draft) → Ready p → AllByRecursion (Drafted parcel) ds → length ds ≤ 256 →

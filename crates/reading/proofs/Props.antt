@@ -1,9 +1,9 @@
 -- Facts that have at most one proof, so that they follow from what is only known to be.
-use Rattle.std.proofs.Common.{ℕ, ◌+◌, List, [], ◌∷◌, Some, None, Option}
+use Rattle.std.proofs.Common.{ℕ, ◌+◌, List, Some, None, Option}
 use mathlib.Core.HLevel.{Π_prop, ×_prop, Unit-prop, ⊥_prop}
 use native.Mathlib.Nat.{ℕ_set}
 use native.Mathlib.Bridge.{le_prop}
-use Rattle.std.specs.List.{AllByRecursion}
+use Rattle.std.specs.List.{AllByRecursion-prop}
 use Rattle.formats.specs.declared.kind.Kind.{Kind}
 use Rattle.formats.specs.declared.kind.Kind.TheVariants.{Primitive, Boolean, Text, View as Viewed, List as Listed, Map, Struct, RunEnds, FixedList}
 use Rattle.columns.specs.Column.{View, short, long}
@@ -18,10 +18,6 @@ use Rattle.pools.specs.Store.{Store}
 use Rattle.rows.specs.Ranged.{RangeThere, Rises}
 use Rattle.reading.specs.Raw.{buffer_in, ViewIn, halves_at, LeafIn}
 use Rattle.reading.specs.Readable.{EndsIn}
-
-all_prop : {X : Type 0} (P : X → Type 0) → ((x : X) → IsProp (P x)) → (xs : List X) → IsProp (AllByRecursion P xs)
-all_prop P h [] = Unit-prop
-all_prop P h (x ∷ xs) = ×_prop (h x) (all_prop P h xs)
 
 rises_prop : (es : List ℕ) → IsProp (Rises es)
 rises_prop es = Π_prop (λ j. Π_prop (λ k. Π_prop (λ a. Π_prop (λ b. le_prop))))
@@ -50,7 +46,7 @@ view_in_prop P list h = λ x y i.
     record {
       listed = le_prop x.listed y.listed i;
       sound = view_sound_prop (buffer_in P) (part_of P.lists list) (view_from h) x.sound y.sound i;
-      inside = all_prop (Inside P.bytes) (λ p. le_prop) P.buffers x.inside y.inside i;
+      inside = AllByRecursion-prop (Inside P.bytes) (λ p. le_prop) P.buffers x.inside y.inside i;
     }
 
 pub leaf_in_prop : (P : Store) (r : Entry) (k : Kind) (row : ℕ) → IsProp (LeafIn P r k row)

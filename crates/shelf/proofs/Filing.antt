@@ -1,10 +1,9 @@
 -- What standing pools give those who file.
 use Rattle.std.proofs.Common.{◌≡◌, ℕ, ◌+◌, ◌-◌, ◌<◌, ◌≤◌, ◌⊎◌, List, [], ◌∷◌, ◌++◌, map, length, get_or, sym, refl, ap, ◌∙◌, subst, inl, inr, arith}
-use mathlib.Core.HLevel.{×_prop, Unit-prop}
 use mathlib.Core.Logic.{∥∥₁_elim}
 use mathlib.Core.Option.{none}
 use native.Mathlib.Bridge.{le_prop}
-use Rattle.std.specs.List.{AllByRecursion}
+use Rattle.std.specs.List.{AllByRecursion, AllByRecursion-prop}
 use Rattle.std.proofs.lemmas.List.{get_or_past}
 use Rattle.columns.specs.Pools.{Entries, of_pool, pools}
 use Rattle.columns.specs.Reading.{Outcome, denied, reached}
@@ -63,14 +62,10 @@ to_examine {calls} p slip bytes buffers long taken b q l m s =
       marks = λ pool. marks_agree (shelf_of L).marks (listed taken) (marks_few L) refl (s.shows.marks ∙ (counts_are_marks p s.ready ∙ sym m)) (pool - 1);
     }
 
-all_prop : {X : Type 0} (P : X → Type 0) → ((x : X) → IsProp (P x)) → (xs : List X) → IsProp (AllByRecursion P xs)
-all_prop P h [] = Unit-prop
-all_prop P h (x ∷ xs) = ×_prop (h x) (all_prop P h xs)
-
 -- The data buffers lie in the byte pool.
 pub within_bytes : (p : Pools) (slip : ℕ) (bytes : List ℕ) (buffers : List Part) → bytes ≡ used p.bytes → buffers ≡ used p.buffers → ∥ Reached p slip ∥₁ → AllByRecursion (Within bytes) buffers
 within_bytes p slip bytes buffers b q some_calls =
-    ∥∥₁_elim some_calls (all_prop (Within bytes) (λ x. le_prop) buffers) (λ r.
+    ∥∥₁_elim some_calls (AllByRecursion-prop (Within bytes) (λ x. le_prop) buffers) (λ r.
     subst (λ (xs : List ℕ). AllByRecursion (Within xs) buffers) (sym b) (subst (AllByRecursion (Within (used p.bytes))) (sym q) r.1.shows.buffers.inside))
 
 -- Drafts of a parcel that is not denied are accepted.

@@ -1,13 +1,14 @@
-use Rattle.std.proofs.Common.{ℕ, ◌<◌, length, sym, refl, ap, ◌∙◌, arith, length-take, w8, Fits}
+use Rattle.std.proofs.Common.{ℕ, ◌<◌, List, [], ◌∷◌, ◌++◌, length, sym, refl, ap, ◌∙◌, arith, length-take, w8, Fits}
 use mathlib.Core.Logic.{∥∥₁_elim, ∥∥₁_map}
 use native.Mathlib.Nat.{sub-zero}
 use Rattle.std.proofs.lemmas.List.{length-take-le}
 use Rattle.std.proofs.ByRecursion.{All-from_get_or}
 use Rattle.std.proofs.lemmas.Result.{err_from_is_err_and}
-use Rattle.columns.specs.Ledger.{added, filing, shelf_of, unless_denied}
+use Rattle.columns.specs.Ledger.{Call, added, filing, shelf_of, unless_denied}
 use Rattle.pools.proofs.Keeping.{ready_after}
 use Rattle.denials.specs.Said.{said}
-use Rattle.shelf.specs.Stands.{lengths, ledger}
+use Rattle.pools.specs.Marked.{entries}
+use Rattle.shelf.specs.Stands.{Stands, lengths, ledger}
 use Rattle.shelf.proofs.Standing.{ready_prop}
 use Rattle.shelf.proofs.Nexts.{denied_stands, accepted_stands}
 use Rattle.shelf.proofs.Filing.{to_examine, within_bytes, to_store, same_lengths}
@@ -31,16 +32,14 @@ returns-in_err-accepted c =
     let p = c.args.pools.now in
     let slip = c.args.slip in
     let parcel = c.args.parcel.now in
+    let why = λ (calls : List Call) (s : Stands calls p slip).
+    c.in_err-accepted.ensures.answers (lengths p slip) (shelf_of (ledger p slip calls)) (to_examine p slip _ _ _ _ c.below.ensures c.below-2.ensures c.lengths_of-long.ensures c.marks_of-marks.ensures s) in
     rw (e.1, e.2)
     record {
-      stands = λ calls s.
-          denied_stands (filing parcel) (said c.in_err-accepted.field-0.0)
-          (sym (c.in_err-accepted.ensures.answers (lengths p slip) (shelf_of (ledger p slip calls)) (to_examine p slip _ _ _ _ c.below.ensures c.below-2.ensures c.lengths_of-long.ensures c.marks_of-marks.ensures s)))
-          s;
-      answers = λ calls s.
-          ap (λ o. unless_denied o (added (length (shelf_of (ledger p slip calls)).columns)))
-          (c.in_err-accepted.ensures.answers (lengths p slip) (shelf_of (ledger p slip calls)) (to_examine p slip _ _ _ _ c.below.ensures c.below-2.ensures c.lengths_of-long.ensures c.marks_of-marks.ensures s));
+      stands = λ calls s. denied_stands (filing parcel) (said c.in_err-accepted.field-0.0) (sym (why calls s)) s;
+      answers = λ calls s. ap (λ o. unless_denied o (added (length (shelf_of (ledger p slip calls)).columns))) (why calls s);
       denied = refl;
+      lent = refl;
     }
 
 pub overflow_cast-column : goal.overflow_cast-column
@@ -76,17 +75,18 @@ returns c =
     let parcel = c.args.parcel.now in
     let x = c.in_ok-accepted.ensures.drafted in
     let shown = simp sub-zero at c.store.ensures.shown in
+    let free = λ (calls : List Call) (s : Stands calls p slip).
+    c.in_ok-accepted.ensures.answers (lengths p slip) (shelf_of (ledger p slip calls)) (to_examine p slip _ _ _ _ c.below.ensures c.below-2.ensures c.lengths_of-long.ensures c.marks_of-marks.ensures s) in
     record {
       stands = λ calls s.
-          let free = c.in_ok-accepted.ensures.answers (lengths p slip) (shelf_of (ledger p slip calls)) (to_examine p slip _ _ _ _ c.below.ensures c.below-2.ensures c.lengths_of-long.ensures c.marks_of-marks.ensures s) in
-          accepted_stands (filing parcel) (sym free) (same_lengths c.store.ensures.kept)
+          accepted_stands (filing parcel) (sym (free calls s)) (same_lengths c.store.ensures.kept)
           (All-from_get_or (λ b. b < 256) parcel 0 (λ i h. of_byte (c.type_inv.parcel i)))
           (ready_after c.store.ensures.kept)
-          (shown (shelf_of (ledger p slip calls)) slip (to_store p slip _ _ parcel _ c.below.ensures c.below-2.ensures x.1.outlined free s))
+          (shown (shelf_of (ledger p slip calls)) slip (to_store p slip _ _ parcel _ c.below.ensures c.below-2.ensures x.1.outlined (free calls s) s))
           s;
       answers = λ calls s.
           ap added (sym (length-take-le p.columns.mark _ s.ready.columns.fits) ∙ s.shows.columns.count)
-          ∙ ap (λ o. unless_denied o (added (length (shelf_of (ledger p slip calls)).columns)))
-          (c.in_ok-accepted.ensures.answers (lengths p slip) (shelf_of (ledger p slip calls)) (to_examine p slip _ _ _ _ c.below.ensures c.below-2.ensures c.lengths_of-long.ensures c.marks_of-marks.ensures s));
+          ∙ ap (λ o. unless_denied o (added (length (shelf_of (ledger p slip calls)).columns))) (free calls s);
       denied = tt;
+      lent = ap (λ m. entries m ++ slip ∷ []) (same_lengths c.store.ensures.kept);
     }
