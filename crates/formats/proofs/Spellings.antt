@@ -1,14 +1,24 @@
-use Rattle.std.proofs.Common.{◌≡◌, ℕ, ◌-◌, ◌≤◌, Bool, true, false, ◌&&◌, eqb, ◌⊎◌, List, [], ◌∷◌, length, get_or, take, drop, sym, refl, ap, inl, inr, arith}
+use Rattle.std.proofs.Common.{◌≡◌, ℕ, ◌-◌, ◌<◌, ◌≤◌, Bool, true, false, ◌∙◌, ◌&&◌, eqb, ◌⊎◌, List, [], ◌∷◌, length, get_or, take, drop, sym, refl, ap, inl, inr, arith}
 use Rattle.std.proofs.lemmas.List.{take_rest}
 use Rattle.std.proofs.lemmas.Bool.{cases_eq, ne_eqb}
 use Rattle.columns.specs.Format.{kind_of, offset_bytes, ends_format, decimal, fixed_size}
-use Rattle.formats.specs.Spelled.{Meaning, told, spelled, one_char, two_chars, timed_of, tick_of, prim_of, stamp_of, fixed_of, lifted, simple}
+use Rattle.formats.specs.Spelled.{Meaning, told, spelled, one_char, two_chars, timed_of, tick_of, prim_of, stamp_of, fixed_of, lifted, simple, none_meant}
 use mathlib.Core.Option as math
 
 pub spelled_one : (l : List ℕ) → length l ≡ 1 → one_char (get_or l 0 0) ≡ spelled l
 spelled_one [] h = absurd (omega arith)
 spelled_one (a ∷ []) h = refl
 spelled_one (a ∷ b ∷ l) h = absurd (omega arith)
+
+pub spelled_none : (l : List ℕ) → length l < 1 → none_meant ≡ spelled l
+spelled_none [] h = refl
+spelled_none (a ∷ l) h = absurd (omega arith)
+
+pub spelled_two : (l : List ℕ) (a b : ℕ) → length l ≡ 2 → a ≡ get_or l 0 0 → b ≡ get_or l 1 0 → two_chars a b ≡ spelled l
+spelled_two [] a b h p q = absurd (omega arith)
+spelled_two (x ∷ []) a b h p q = absurd (omega arith)
+spelled_two (x ∷ y ∷ []) a b h p q = ap (λ (u : ℕ). two_chars u b) p ∙ ap (two_chars x) q
+spelled_two (x ∷ y ∷ z ∷ l) a b h p q = absurd (omega arith)
 
 pub spelled_stamp : (l : List ℕ) → 4 ≤ length l → get_or l 0 0 ≡ 116 → get_or l 1 0 ≡ 115 → get_or l 3 0 ≡ 58
     → stamp_of (tick_of (get_or l 2 0)) (take (length l - 4) (drop 4 l)) ≡ spelled l

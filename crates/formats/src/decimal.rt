@@ -7,10 +7,7 @@ ghost use Rattle.columns.specs.Format.{decimal as decimal_of};
 fn digit(letter: char) -> Option<u32>
     ensures { result ≡ digit_of letter }
 {
-    match letter {
-        '0'..='9' => Some(letter as u32 - 48),
-        _ => None,
-    }
+    letter.to_digit(10)
 }
 
 // A number that is not above 2,147,483,647.
@@ -44,10 +41,7 @@ pub fn number(digits: &[u8]) -> Option<u32>
     match digits {
         [] => None,
         [_] => follow(digits, 0),
-        [first, ..] => if char::from(*first) == '0' {
-            None
-        } else {
-            follow(digits, 0)
-        },
+        [b'0', ..] => None,
+        _ => follow(digits, 0),
     }
 }

@@ -1,11 +1,11 @@
 // Format strings, read character by character.
 ghost use Rattle.std.specs.Prelude.{◌≡◌, ℕ, ◌+◌, ◌-◌, ◌*◌, ◌<◌, ◌≤◌, length};
-ghost use Rattle.formats.specs.Spelled.{meant, spelled, plain_of, tick_of, clock_of, timed_of, two_chars, one_char, told};
+ghost use Rattle.formats.specs.Spelled.{bytes_of, meant, spelled, plain_of, tick_of, clock_of, timed_of, two_chars, one_char, told};
 
 use crate::decimal::number;
 
 // The bytes of a value.
-#[derive(Clone, Copy)]
+#[derive(Clone, Copy, PartialEq, Eq, Debug)]
 pub enum Width {
     One,
     Two,
@@ -13,8 +13,22 @@ pub enum Width {
     Eight,
 }
 
+impl Width {
+    pub fn bytes(self) -> usize
+        ensures is { result ≡ bytes_of self }
+        ensures low { result ≤ 8 }
+    {
+        match self {
+            Width::One => 1,
+            Width::Two => 2,
+            Width::Four => 4,
+            Width::Eight => 8,
+        }
+    }
+}
+
 // What a primitive value stands for.
-#[derive(Clone, Copy)]
+#[derive(Clone, Copy, PartialEq, Eq, Debug)]
 pub enum Family {
     Signed,
     Unsigned,
@@ -26,7 +40,7 @@ pub enum Family {
 }
 
 // A unit of time.
-#[derive(Clone, Copy)]
+#[derive(Clone, Copy, PartialEq, Eq, Debug)]
 pub enum Tick {
     Second,
     Milli,
@@ -161,17 +175,15 @@ fn long<'a>(format: &'a [u8]) -> Option<Format<'a>>
     ensures { meant result ≡ spelled format.now }
 {
     match format {
-        [t, s, u, colon, zone @ ..]
-            if char::from(*t) == 't' && char::from(*s) == 's' && char::from(*colon) == ':' => {
-            let unit = tick_of(char::from(*u))?;
+        [b't', b's', unit, b':', zone @ ..] => {
+            let unit = tick_of(char::from(*unit))?;
             Some(Format::Timestamp { unit, zone })
         }
-        [plus, w, colon, digits @ ..]
-            if char::from(*plus) == '+' && char::from(*w) == 'w' && char::from(*colon) == ':' => {
+        [b'+', b'w', b':', digits @ ..] => {
             let n = number(digits)?;
             Some(Format::FixedList(n))
         }
-        [t, family, unit] if char::from(*t) == 't' => {
+        [b't', family, unit] => {
             let (family, width) = timed(char::from(*family), char::from(*unit))?;
             Some(Format::Primitive(family, width))
         }
@@ -179,9 +191,9 @@ fn long<'a>(format: &'a [u8]) -> Option<Format<'a>>
     }
 }
 
-// A format by its length.
-fn parse<'a>(format: &'a [u8]) -> Option<Format<'a>>
-    ensures { meant result ≡ spelled format.now }
+// What a format string says, or nothing where it is none of the spellings.
+pub fn read_format<'a>(format: &'a [u8]) -> Option<Format<'a>>
+    ensures { meant result ≡ told format.now }
 {
     match format {
         [] => None,
@@ -189,11 +201,4 @@ fn parse<'a>(format: &'a [u8]) -> Option<Format<'a>>
         [a, b] => two(char::from(*a), char::from(*b)),
         _ => long(format),
     }
-}
-
-// What a format string says, or nothing where it is none of the spellings.
-pub fn read_format<'a>(format: &'a [u8]) -> Option<Format<'a>>
-    ensures { meant result ≡ told format.now }
-{
-    parse(format)
 }

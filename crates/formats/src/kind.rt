@@ -5,7 +5,7 @@ ghost use Rattle.formats.specs.Spelled.{format_meant};
 
 use crate::format::{Format, Width};
 
-#[derive(Clone, Copy)]
+#[derive(Clone, Copy, PartialEq, Eq, Debug, Default)]
 pub enum Kind {
     Primitive(Width),
     Boolean,
@@ -13,26 +13,28 @@ pub enum Kind {
     View,
     List { wide: bool },
     Map,
+    #[default]
     Struct,
     RunEnds,
     FixedList(u32),
 }
 
-// The kind that a format spells.
-pub fn kind_of(format: Format<'_>) -> Kind
-    ensures layout { layout result ≡ (format_meant format.entry).kind }
-    ensures offsets { offset_width result ≡ (format_meant format.entry).offset }
-{
-    match format {
-        Format::Primitive(_, width) => Kind::Primitive(width),
-        Format::Timestamp { unit: _, zone: _ } => Kind::Primitive(Width::Eight),
-        Format::Boolean => Kind::Boolean,
-        Format::Text { wide } => Kind::Text { wide },
-        Format::View => Kind::View,
-        Format::List { wide } => Kind::List { wide },
-        Format::Map => Kind::Map,
-        Format::Struct => Kind::Struct,
-        Format::RunEnds => Kind::RunEnds,
-        Format::FixedList(size) => Kind::FixedList(size),
+impl From<Format<'_>> for Kind {
+    // the kind that a format spells: its layout, and the width of its offsets
+    ghost from_gives = { λ format kind. (layout kind ≡ (format_meant format).kind) × (offset_width kind ≡ (format_meant format).offset) };
+
+    fn from(format: Format<'_>) -> Kind {
+        match format {
+            Format::Primitive(_, width) => Kind::Primitive(width),
+            Format::Timestamp { .. } => Kind::Primitive(Width::Eight),
+            Format::Boolean => Kind::Boolean,
+            Format::Text { wide } => Kind::Text { wide },
+            Format::View => Kind::View,
+            Format::List { wide } => Kind::List { wide },
+            Format::Map => Kind::Map,
+            Format::Struct => Kind::Struct,
+            Format::RunEnds => Kind::RunEnds,
+            Format::FixedList(size) => Kind::FixedList(size),
+        }
     }
 }

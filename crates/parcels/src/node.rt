@@ -11,7 +11,7 @@ use crate::allow::child_role;
 use crate::begin::begin;
 use crate::draft::{Below, Draft, Place, Role};
 use denials::Denial;
-use formats::kind::kind_of;
+use formats::kind::Kind;
 
 fn more(below: Below, k: u8, rows: u32, own: u32) -> Below
     ensures { result ≡ below_more below k rows own }
@@ -56,7 +56,7 @@ pub(crate) fn node(
         here = after;
     }
     let me = place.nodes;
-    let kind = kind_of(opened.format);
+    let kind = Kind::from(opened.format);
     drafts[me] = Draft {
         kind,
         role,

@@ -2,6 +2,7 @@ pub mod Grown
 pub mod Used
 pub mod Marked
 pub mod Parts
+pub mod Laid
 pub mod Store
 pub mod Held
 pub mod Stored

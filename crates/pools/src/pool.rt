@@ -14,6 +14,25 @@ pub struct Pool<'a, T> {
     pub mark: usize,
 }
 
+// A pool over what is lent, with nothing used of it.
+impl<'a, T> From<&'a mut [T]> for Pool<'a, T> {
+    ghost from_gives = { λ lent pool. (pool.lent ≡ lent) × (pool.mark ≡ 0) };
+
+    fn from(lent: &'a mut [T]) -> Pool<'a, T> {
+        Pool { lent, mark: 0 }
+    }
+}
+
+impl<T> Pool<'_, T> {
+    // The entries below the mark.
+    pub fn used(&self) -> &[T]
+        requires { Standing self.now }
+        ensures { result.now ≡ used self.now }
+    {
+        &self.lent[..self.mark]
+    }
+}
+
 impl<'a, T: Copy> Pool<'a, T> {
     // How many entries can be added.
     pub fn free(&self) -> usize

@@ -70,8 +70,8 @@ returns t c =
     record {
       reads = λ bs before.
           let o = c.in_ok-opened.ensures.reads bs in
-          node_found parcel before c.args.levels c.args.place c.in_ok-opened.start bs c.kind_of-kind.result c.args.role h c.in_ok-opened.opened.parts o i.nodes
+          node_found parcel before c.args.levels c.args.place c.in_ok-opened.start bs c.from-kind.result c.args.role h c.in_ok-opened.opened.parts o i.nodes
           c.loop-k.here c.loop-k.below c.loop-k.drafts c.loop-k.k (c.loop-k.invariant.0 o.after before) i.children k c.args.drafts.now c.loop-k.invariant.1 (omega arith);
       inside = found_inside parcel c.args.place c.in_ok-opened.start c.loop-k.here c.args.drafts.now c.loop-k.drafts _ i.nodes (omega (arith, i.nodes, i.few))
-          (drafted parcel c.args.place c.in_ok-opened.start c.args.levels c.kind_of-kind.result c.args.role h c.in_ok-opened.opened.format c.in_ok-opened.opened.parts c.loop-k.below i (c.in_ok-opened.ensures.reads []) c.kind_of-kind.ensures.layout c.kind_of-kind.ensures.offsets) c.loop-k.invariant.1;
+          (drafted parcel c.args.place c.in_ok-opened.start c.args.levels c.from-kind.result c.args.role h c.in_ok-opened.opened.format c.in_ok-opened.opened.parts c.loop-k.below i (c.in_ok-opened.ensures.reads []) c.from-kind.ensures.0 c.from-kind.ensures.1) c.loop-k.invariant.1;
     }
