@@ -19,8 +19,8 @@ use Rattle.soundness.specs.declared.sent.DataBuffer.{DataBuffer}
 use Rattle.soundness.specs.declared.sent.Sent.{Sent}
 use Rattle.soundness.specs.declared.sent.Sent.TheVariants.{Brought, Named}
 use Rattle.soundness.specs.Buffers.{buffers_from}
-use Rattle.soundness.specs.Sources.{SentAt}
-use Rattle.soundness.proofs.Buffers.{Told, bytes_then, brought_in, brought_is, buffers_told, length_buffers}
+use Rattle.soundness.specs.Sources.{SentAt, Told}
+use Rattle.soundness.proofs.Buffers.{bytes_then, brought_in, brought_is, buffers_told, length_buffers}
 
 -- the data buffers of a list that are brought, and their bytes
 abbrev pub new_in : List DataBuffer → ℕ

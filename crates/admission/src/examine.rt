@@ -17,6 +17,7 @@ use parcels::draft::Draft;
 use parcels::node::outline;
 use pools::records::Part;
 use soundness::ladder::first_denied;
+use soundness::shelved::Shelved;
 
 // The first denial that a parcel meets: as it is read, then by node, then for want of room. Else its nodes are drafted,
 // and what they need is told.
@@ -38,7 +39,8 @@ pub fn examine(
 {
     let nodes = outline(parcel, drafts)?;
     let drafted = &drafts[0..nodes];
-    first_denied(parcel, bytes, buffers, drafted)?;
+    let shelved = Shelved { bytes, buffers };
+    first_denied(parcel, shelved, drafted)?;
     let needed = needs(parcel, drafted);
     if let Some(pool) = full(lengths, marks, needed) {
         return Err(Denial::Full(pool));

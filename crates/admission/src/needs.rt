@@ -12,6 +12,7 @@ use formats::kind::Kind;
 use parcels::draft::Draft;
 use pools::records::Part;
 use soundness::data_buffers::DataBuffers;
+use soundness::node::SentNode;
 use soundness::sent::Sent;
 use soundness::values::bit_bytes;
 
@@ -114,13 +115,13 @@ fn mask_bytes(mask: Option<Part>, rows: usize) -> usize
 }
 
 // What a node needs: itself, its format string, its buffers, and the data buffers that it brings.
-fn draft_needs(parcel: &[u8], d: Draft) -> Entries
-    requires { Drafted parcel.now d }
-    ensures is { listed result ≡ draft_entries parcel.now d }
+fn draft_needs(node: SentNode<'_>) -> Entries
+    ensures is { listed result ≡ draft_entries node.entry.parcel.now node.entry.draft }
     ensures low { AllByRecursion (λ v. v ≤ 281474976710656) (listed result) }
 {
-    let rows = d.head.rows as usize;
-    let new = brought(DataBuffers::of(parcel, d.parts.lent));
+    let rows = node.rows();
+    let new = brought(node.lent());
+    let d = node.draft;
     let base = mask_bytes(d.parts.mask, rows) + d.head.format.len + new.bytes;
     kind_needs(
         d.kind,
@@ -161,7 +162,11 @@ pub(crate) fn needs(parcel: &[u8], drafts: &[Draft]) -> Entries
         ..Entries::NONE
     };
     for draft in drafts {
-        total = add(total, draft_needs(parcel, *draft));
+        let node = SentNode {
+            parcel,
+            draft: *draft,
+        };
+        total = add(total, draft_needs(node));
     }
     total
 }

@@ -16,10 +16,5 @@ pub(crate) fn all_valid(mask: &[u8], rows: usize) -> bool
     requires { length mask.now ≡ bytes_for rows }
     ensures { result ≡ not (some_null (bits_in rows mask.now)) }
 {
-    for i in 0..rows {
-        if !bit(mask, i) {
-            return false;
-        }
-    }
-    true
+    (0..rows).all(|i| bit(mask, i))
 }

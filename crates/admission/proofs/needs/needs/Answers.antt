@@ -9,8 +9,8 @@ use Rattle.soundness.proofs.Rungs.{blank}
 use Rattle.admission.proofs.Counting.{plus_most, all_below, add_more, add_all}
 use Rattle.admission.proofs.needs.needs.Goals as goal
 
-pub draft_needs-requires : goal.draft_needs-requires
-draft_needs-requires c = All-get_or (Drafted c.args.parcel.now) c.args.drafts.now c.loop-draft.draft-index blank c.loop-draft-test.true c.requires.0
+pub invariant_of-node : goal.invariant_of-node
+invariant_of-node c = record { drafted = All-get_or (Drafted c.args.parcel.now) c.args.drafts.now c.loop-draft.draft-index blank c.loop-draft-test.true c.requires.0 }
 
 pub add-total-requires : goal.add-total-requires
 add-total-requires c = (

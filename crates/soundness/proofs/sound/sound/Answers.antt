@@ -10,9 +10,9 @@ use Rattle.soundness.proofs.sound.sound.Goals as goal
 
 pub returns-then-role_sound : goal.returns-then-role_sound
 returns-then-role_sound c = λ more u.
-    let parcel = c.args.parcel.now in
-    let d = c.args.d in
-    let bs : List (List ℕ) = buffers_in c.args.bytes.now c.args.buffers.now ++ more in
+    let parcel = c.args.node.parcel.now in
+    let d = c.args.node.draft in
+    let bs : List (List ℕ) = buffers_in c.args.shelved.bytes.now c.args.shelved.buffers.now ++ more in
     let ds : List Data = data_of parcel bs d in
     let F : Bool = fills (kind_in parcel d) (head_in parcel d) (sent_of parcel d.parts ds) in
     let K : Bool = kind_sound_in parcel bs d in
@@ -22,9 +22,9 @@ returns-then-role_sound c = λ more u.
 
 pub returns-else-role_sound : goal.returns-else-role_sound
 returns-else-role_sound c = λ more u.
-    let parcel = c.args.parcel.now in
-    let d = c.args.d in
-    let bs : List (List ℕ) = buffers_in c.args.bytes.now c.args.buffers.now ++ more in
+    let parcel = c.args.node.parcel.now in
+    let d = c.args.node.draft in
+    let bs : List (List ℕ) = buffers_in c.args.shelved.bytes.now c.args.shelved.buffers.now ++ more in
     let ds : List Data = data_of parcel bs d in
     let F : Bool = fills (kind_in parcel d) (head_in parcel d) (sent_of parcel d.parts ds) in
     let K : Bool = kind_sound_in parcel bs d in
@@ -34,9 +34,9 @@ returns-else-role_sound c = λ more u.
 
 pub returns-then-not-filled : goal.returns-then-not-filled
 returns-then-not-filled c = λ more u.
-    let parcel = c.args.parcel.now in
-    let d = c.args.d in
-    let bs : List (List ℕ) = buffers_in c.args.bytes.now c.args.buffers.now ++ more in
+    let parcel = c.args.node.parcel.now in
+    let d = c.args.node.draft in
+    let bs : List (List ℕ) = buffers_in c.args.shelved.bytes.now c.args.shelved.buffers.now ++ more in
     let ds : List Data = data_of parcel bs d in
     let R : Bool = role_sound (role_of d.role) (node_in parcel d ds) in
     let K : Bool = kind_sound_in parcel bs d in
