@@ -9,13 +9,13 @@ ghost use Rattle.soundness.specs.Ladder.{denial_in};
 ghost use Rattle.admission.specs.Examine.{Stands, Examined};
 
 use crate::accepted::Accepted;
-use crate::entries::Entries;
 use crate::needs::needs;
-use crate::room::full;
 use denials::Denial;
 use parcels::draft::Draft;
 use parcels::node::outline;
+use pools::entries::Entries;
 use pools::records::Part;
+use pools::room::full_pool;
 use soundness::ladder::first_denied;
 
 // The first denial that a parcel meets: as it is read, then by node, then for want of room. Else its nodes are drafted,
@@ -40,7 +40,7 @@ pub fn examine(
     let drafted = &drafts[0..nodes];
     first_denied(parcel, bytes, buffers, drafted)?;
     let needed = needs(parcel, drafted);
-    if let Some(pool) = full(lengths, marks, needed) {
+    if let Some(pool) = full_pool(&lengths, &marks, &needed) {
         return Err(Denial::Full(pool));
     }
     Ok(Accepted {

@@ -19,7 +19,7 @@ pub struct Header {
     pub rows: u32,
 }
 
-#[derive(Clone, Copy)]
+#[derive(Clone, Copy, Default)]
 pub struct Head {
     pub masked: bool,
     pub format: Part,
@@ -29,15 +29,16 @@ pub struct Head {
 }
 
 // What a node is to its parent: the run ends of a node of so many rows, a map's entries, or anything else.
-#[derive(Clone, Copy)]
+#[derive(Clone, Copy, Default)]
 pub enum Role {
     Ends(u32),
     Entries,
+    #[default]
     Free,
 }
 
 // A node's buffers: where they lie, and where the data buffers start, with their count.
-#[derive(Clone, Copy)]
+#[derive(Clone, Copy, Default)]
 pub struct Parts {
     pub mask: Option<Part>,
     pub body: Part,
@@ -46,7 +47,7 @@ pub struct Parts {
 }
 
 // What a node's children have: the rows of the first and of the second, and whether all have the node's rows.
-#[derive(Clone, Copy)]
+#[derive(Clone, Copy, Default)]
 pub struct Below {
     pub first: u32,
     pub second: u32,
@@ -54,7 +55,7 @@ pub struct Below {
 }
 
 // A node of the parcel, before it is checked.
-#[derive(Clone, Copy)]
+#[derive(Clone, Copy, Default)]
 pub struct Draft {
     pub kind: Kind,
     pub role: Role,

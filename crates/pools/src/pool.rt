@@ -43,10 +43,9 @@ impl<'a, T: Copy> Pool<'a, T> {
 
     // Whether so many more entries fit.
     pub fn fits(&self, more: usize) -> bool
-        requires { Standing self.now }
         ensures { result ≡ nat_le (self.now.mark + more) (length self.now.lent.now) && nat_le (self.now.mark + more) most_entries }
     {
-        more <= self.free()
+        fits(self.lent.len(), self.mark, more)
     }
 
     pub fn append(&mut self, entry: T)
@@ -82,6 +81,14 @@ pub fn left(len: usize, mark: usize) -> usize
     ensures { result ≡ min len most_entries - mark }
 {
     len.min(MOST_ENTRIES).saturating_sub(mark)
+}
+
+// Whether so many entries more fit into a pool of this length with this mark.
+pub fn fits(len: usize, mark: usize, more: usize) -> bool
+    ensures { result ≡ (nat_le (mark + more) len && nat_le (mark + more) most_entries) }
+{
+    mark.checked_add(more)
+        .is_some_and(|end| end <= len && end <= MOST_ENTRIES)
 }
 
 fn at<T: Copy>(lent: &[T], place: usize) -> T
