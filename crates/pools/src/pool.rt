@@ -52,8 +52,7 @@ impl<'a, T: Copy> Pool<'a, T> {
         requires { Fit self.old 1 }
         ensures { Gains self.old (entry ∷ []) self.new }
     {
-        let place = self.mark;
-        put(self.lent, place, entry);
+        self.lent[self.mark] = entry;
         self.mark += 1;
     }
 
@@ -62,9 +61,9 @@ impl<'a, T: Copy> Pool<'a, T> {
         requires { Fit self.old (length entries.now) }
         ensures { Gains self.old entries.now self.new }
     {
-        let place = self.mark;
-        put_all(self.lent, place, entries);
-        self.mark += entries.len();
+        let end = self.mark + entries.len();
+        self.lent[self.mark..end].copy_from_slice(entries);
+        self.mark = end;
     }
 
     // The entry at a place below the mark.
@@ -72,7 +71,7 @@ impl<'a, T: Copy> Pool<'a, T> {
         requires { place < length (used self.now) }
         ensures { (d : _) → result ≡ slice_index_or (used self.now) place d }
     {
-        at(self.lent, place)
+        self.lent[place]
     }
 }
 
@@ -89,25 +88,4 @@ pub fn fits(len: usize, mark: usize, more: usize) -> bool
 {
     mark.checked_add(more)
         .is_some_and(|end| end <= len && end <= MOST_ENTRIES)
-}
-
-fn at<T: Copy>(lent: &[T], place: usize) -> T
-    requires { place < length lent.now }
-    ensures { (d : _) → result ≡ slice_index_or lent.now place d }
-{
-    lent[place]
-}
-
-fn put<T: Copy>(entries: &mut [T], place: usize, entry: T)
-    requires { place < length entries.old }
-    ensures { entries.new ≡ slice_set entries.old place entry }
-{
-    entries[place] = entry;
-}
-
-fn put_all<T: Copy>(entries: &mut [T], place: usize, new: &[T])
-    requires { place + length new.now ≤ length entries.old }
-    ensures { entries.new ≡ put_mid place (length new.now) entries.old new.now }
-{
-    entries[place..place + new.len()].copy_from_slice(new);
 }
