@@ -3,7 +3,7 @@ ghost use Rattle.std.specs.Prelude.{◌≤◌, take, IfOk};
 ghost use Rattle.wire.specs.Calls.{OneCall};
 
 use super::answer::{Answer, line};
-use super::call::{Call, Decoded, Extent};
+use super::call::{Call, DecodeError, Unread};
 use super::decode::{MOST_BYTES, decode, extent};
 use std::alloc::Global;
 use std::io;
@@ -22,10 +22,7 @@ pub fn read_call<R: Read>(input: &mut R, held: &mut [u8; MOST_BYTES]) -> io::Res
     ensures { IfOk result (λ n. (n ≤ 65536) × OneCall (take n held.new)) }
 {
     let mut filled = 0;
-    loop {
-        let Extent::Lacks(lacks) = extent(&held[0..filled]) else {
-            return Ok(filled);
-        };
+    while let Err(Unread::CutOff { lacks }) = extent(&held[..filled]) {
         let got = input.read(&mut held[filled..filled + lacks])?;
         if got == 0 {
             break;
@@ -50,9 +47,10 @@ pub fn serve<R: Read, W: Write, S: Service>(
         if filled == 0 {
             return Ok(());
         }
-        let answer = match decode(heap, &held[0..filled])? {
-            Decoded::Whole { call, rest: _ } => service.answer(&call, text),
-            _ => Answer::Halt,
+        let answer = match decode(heap, &held[..filled]) {
+            Ok((call, _)) => service.answer(&call, text),
+            Err(DecodeError::Unread(_)) => Answer::Halt,
+            Err(DecodeError::Memory(error)) => return Err(error.into()),
         };
         let written = line(heap, answer, text)?;
         output.write_all(written.as_slice())?;
