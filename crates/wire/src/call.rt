@@ -1,6 +1,7 @@
 // The calls that the program takes, and why there is none at the front of an input.
 ghost use Rattle.wire.specs.declared.call.DecodeError.TheVariants.{Memory, Unread as NoCall};
-ghost use Rattle.std.specs.Prelude.{◌≡◌};
+ghost use Rattle.std.specs.Prelude.{◌≡◌, Some};
+ghost use Rattle.wire.specs.Reasons.{reason, failure};
 
 use std::alloc::AllocError;
 use std::error::Error;
@@ -34,6 +35,8 @@ pub enum Unread {
 }
 
 impl fmt::Display for Unread {
+    ghost output = { λ why. Some (reason why) };
+
     fn fmt<W: fmt::Write>(&self, f: &mut fmt::Formatter<W>) -> fmt::Result {
         match self {
             Unread::CutOff { lacks } => write!(f, "the call lacks {lacks} bytes or more"),
@@ -54,6 +57,8 @@ pub enum DecodeError {
 }
 
 impl fmt::Display for DecodeError {
+    ghost output = { λ e. Some (failure e) };
+
     fn fmt<W: fmt::Write>(&self, f: &mut fmt::Formatter<W>) -> fmt::Result {
         match self {
             DecodeError::Unread(unread) => write!(f, "{unread}"),

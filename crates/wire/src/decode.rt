@@ -42,8 +42,7 @@ fn measured(input: &[u8]) -> Result<(Kind, usize), Unread>
 pub fn extent(input: &[u8]) -> Result<usize, Unread>
     ensures { result ≡ extent_of input.now }
 {
-    let (_, size) = measured(input)?;
-    Ok(size)
+    measured(input).map(|(_, size)| size)
 }
 
 // The call at the front of the input, and what is left after it. An input that begins with a call's bytes gives back that

@@ -14,7 +14,8 @@ pub(crate) enum Kind {
     Read,
 }
 
-// The number of 16 bits that begins at byte `at`, most significant first.
+// The number of 16 bits that begins at byte `at`, most significant first. Each width has its own function, since no trait has
+// `from_be_bytes`.
 fn u16_at(input: &[u8], at: usize) -> u16
     requires { at + 2 ≤ length input.now }
     ensures { result ≡ u16_at input.now at }
@@ -22,7 +23,8 @@ fn u16_at(input: &[u8], at: usize) -> u16
     u16::from_be_bytes(input[at..at + 2].try_into().unwrap())
 }
 
-// The number of 32 bits that begins at byte `at`, most significant first.
+// The number of 32 bits that begins at byte `at`, most significant first. Where it is a size it is cast, since `usize` has no
+// `From<u32>`.
 fn u32_at(input: &[u8], at: usize) -> u32
     requires { at + 4 ≤ length input.now }
     ensures { result ≡ u32_at input.now at }
@@ -38,7 +40,8 @@ fn columns_in(heap: Global, bytes: &[u8]) -> Result<Vec<u32>, AllocError>
     entries.iter().map(|entry| u32_at(entry, 0)).collect(heap)
 }
 
-// The pairs that fill these bytes.
+// The pairs that fill these bytes. One generic function for columns and pairs would be no plainer: these two lines, and clauses on
+// the closure that it is given.
 fn pairs_in(heap: Global, bytes: &[u8]) -> Result<Vec<(u16, u32)>, AllocError>
     ensures { IfOk result (λ v. v.items ≡ map (λ entry. pair_at entry 0) (first_chunks 6 (length bytes.now / 6) bytes.now)) }
 {

@@ -42,6 +42,7 @@ pub fn serve<R: Read, W: Write, S: Service>(
     text: &mut [u8],
 ) -> io::Result<()> {
     let mut held = [0u8; MOST_BYTES];
+    // no bound on what a reader gives is known: a `loop` would be no plainer, since it needs a measure
     for _ in 0..u64::MAX {
         let filled = read_call(input, &mut held)?;
         if filled == 0 {
