@@ -44,12 +44,12 @@ pub fn line(heap: Global, answer: Answer, text: &[u8]) -> Result<Vec<u8>, AllocE
     ensures { IfOk result (λ v. v.items ≡ line_of answer text.now) }
 {
     match answer {
-        Answer::Filed(column) => Ok(format!(in heap; "filed {column}\n")?.into_bytes()),
-        Answer::Made(column) => Ok(format!(in heap; "made {column}\n")?.into_bytes()),
+        Answer::Filed(column) => format!(in heap; "filed {column}\n").map(String::into_bytes),
+        Answer::Made(column) => format!(in heap; "made {column}\n").map(String::into_bytes),
         Answer::Row(length) => [b"row ".as_slice(), front(text, length), b"\n"].concat(heap),
-        Answer::No { number, detail } => Ok(format!(in heap;
-            "no {number} {detail}\n"
-        )?.into_bytes()),
+        Answer::No { number, detail } => format!(in heap; "no {number} {detail}\n").map(
+            String::into_bytes,
+        ),
         Answer::Halt => Vec::from_slice(heap, b"halt\n"),
     }
 }
