@@ -3,7 +3,10 @@ ghost use Rattle.std.specs.Prelude.{◌≡◌, ◌+◌, ◌-◌, ◌<◌, ◌≤
 ghost use borrow.Rule.Slice.PartMut.{put_mid};
 ghost use Rattle.pools.specs.Grown.{most_entries};
 ghost use Rattle.pools.specs.Kept.{Standing};
+ghost use Rattle.pools.specs.Parts.{part_of, Inside};
 ghost use Rattle.pools.specs.Used.{used, room, Fit, Gains};
+
+use crate::records::Part;
 
 // However long the slice is, no entry past these is used.
 pub const MOST_ENTRIES: usize = 1_048_576;
@@ -30,6 +33,14 @@ impl<T> Pool<'_, T> {
         ensures { result.now ≡ used self.now }
     {
         &self.lent[..self.mark]
+    }
+
+    // The entries of a part that lies below the mark.
+    pub fn part(&self, part: Part) -> &[T]
+        requires { Inside (used self.now) part }
+        ensures { result.now ≡ part_of (used self.now) part }
+    {
+        part.of(self.lent)
     }
 }
 
