@@ -1,7 +1,6 @@
 -- What drafts need of the pools.
-use Rattle.std.specs.Prelude.{ℕ, ◌+◌, cond, List, [], ◌∷◌, ◌++◌, map, length, drop, Some, None, Option}
+use Rattle.std.specs.Prelude.{ℕ, ◌+◌, List, [], ◌∷◌, ◌++◌, map, length, Some, None, Option}
 use Rattle.columns.specs.Column.{bytes_for}
-use Rattle.columns.specs.Sent.{is_named, buffer_length}
 use Rattle.columns.specs.Pools.{plus, sum_of}
 use Rattle.pools.specs.declared.pools.Marks.{Marks}
 use Rattle.pools.specs.Marked.{entries}
@@ -13,17 +12,21 @@ use Rattle.formats.specs.declared.kind.Kind.TheVariants.{Primitive, Boolean, Tex
 use Rattle.formats.specs.declared.kind.Kind.TheVariants.{List as ListOf}
 use Rattle.parcels.specs.declared.draft.Draft.{Draft}
 use Rattle.parcels.specs.Lent.{brought_from}
+use Rattle.soundness.specs.declared.sent.Sent.{Sent}
+use Rattle.soundness.specs.declared.sent.Sent.TheVariants.{Brought, Named}
 
 -- of pools 1 to 11: nothing of the slip
 abbrev pub needed : Marks → List ℕ
 needed x = entries x ++ 0 ∷ []
 
--- the data buffer at a place is brought, and its bytes if it is
-abbrev pub one_new : List ℕ → (at : ℕ) → ℕ
-one_new parcel at = cond (is_named (drop at parcel)) 0 1
+-- how many data buffers a data buffer brings, as 1 or 0, and its bytes if it is brought
+abbrev pub one_new : Sent → ℕ
+one_new (Brought len) = 1
+one_new (Named number) = 0
 
-abbrev pub one_bytes : List ℕ → (at : ℕ) → ℕ
-one_bytes parcel at = cond (is_named (drop at parcel)) 0 (buffer_length (drop at parcel))
+abbrev pub one_bytes : Sent → ℕ
+one_bytes (Brought len) = len
+one_bytes (Named number) = 0
 
 -- the data buffers that are brought, and their bytes
 abbrev pub new_count : List ℕ → Part → ℕ
