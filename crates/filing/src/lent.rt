@@ -84,7 +84,8 @@ fn put_buffer(
     if len >= 2147483648 {
         return at + 4;
     }
-    let part = copy_part(bytes, parcel, Part { start: at + 4, len });
+    let brought = Part { start: at + 4, len };
+    let part = copy_part(bytes, brought.of(parcel));
     buffers.append(part);
     at + 4 + len
 }

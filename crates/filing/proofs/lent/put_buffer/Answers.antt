@@ -30,8 +30,14 @@ returns-then-len-ge2147483648 c =
       after = ap (λ (n : ℕ). c.args.at + n) (sym (size_named c.args.parcel.now c.args.at named));
     }
 
-pub overflow_add-at : goal.overflow_add-at
-overflow_add-at c = omega (arith, one_fits c.args.parcel.now c.args.at c.requires.inside, size_least c.args.parcel.now c.args.at)
+pub overflow_add-brought : goal.overflow_add-brought
+overflow_add-brought c = omega (arith, one_fits c.args.parcel.now c.args.at c.requires.inside, size_least c.args.parcel.now c.args.at)
+
+pub of-requires : goal.of-requires
+of-requires c =
+    let new : is_named (drop c.args.at c.args.parcel.now) ≡ false =
+    lt-leb 2147483648 (buffer_length (drop c.args.at c.args.parcel.now)) (omega (arith, c.length_at-len.ensures.value)) in
+    omega (arith, one_fits c.args.parcel.now c.args.at c.requires.inside, size_brought c.args.parcel.now c.args.at new, c.length_at-len.ensures.value)
 
 pub copy_part-part-requires : goal.copy_part-part-requires
 copy_part-part-requires c =
@@ -41,10 +47,8 @@ copy_part-part-requires c =
     omega (arith, one_fits c.args.parcel.now c.args.at c.requires.inside, size_brought c.args.parcel.now c.args.at new, c.length_at-len.ensures.value) in
     let long : length (flat (brought_from c.args.parcel.now c.args.at 1)) ≡ c.length_at-len.result =
     flat_one c.args.parcel.now c.args.at c.length_at-len.result c.length_at-len.ensures.value inside new in
-    record {
-      room = record { lent = omega (arith, c.requires.held.lent, long); capped = omega (arith, c.requires.held.capped, long) };
-      inside = inside;
-    }
+    let part : length c.of.result.now ≡ c.length_at-len.result = ap length c.of.ensures ∙ slice_fits c.args.parcel.now (c.args.at + 4) c.length_at-len.result inside in
+    record { lent = omega (arith, c.requires.held.lent, long, part); capped = omega (arith, c.requires.held.capped, long, part) }
 
 pub append-requires : goal.append-requires
 append-requires c =
@@ -66,19 +70,16 @@ returns c =
     lt-leb 2147483648 (buffer_length (drop c.args.at c.args.parcel.now)) (omega (arith, c.length_at-len.ensures.value)) in
     let one = brought_one c.args.parcel.now c.args.at new in
     let size = size_brought c.args.parcel.now c.args.at new in
-    let inside : c.args.at + 4 + c.length_at-len.result ≤ length c.args.parcel.now =
-    omega (arith, one_fits c.args.parcel.now c.args.at c.requires.inside, size, value) in
-    let long : length (bytes_at c.args.parcel.now c.args.at) ≡ c.length_at-len.result =
-    slice_fits c.args.parcel.now (c.args.at + 4) (buffer_length (drop c.args.at c.args.parcel.now)) (omega (arith, inside, value)) ∙ sym value in
+    let part : c.of.result.now ≡ bytes_at c.args.parcel.now c.args.at = c.of.ensures ∙ ap (slice c.args.parcel.now (c.args.at + 4)) value in
     record {
       bytes =
           subst (λ (l : List ℕ). Grown c.args.bytes.now.mark c.args.bytes.now.lent.now l c.copy_part-part.new.bytes.mark c.copy_part-part.new.bytes.lent.now)
-          (ap (slice c.args.parcel.now (c.args.at + 4)) value ∙ sym (append-nil (bytes_at c.args.parcel.now c.args.at)) ∙ sym (ap flat one))
+          (part ∙ sym (append-nil (bytes_at c.args.parcel.now c.args.at)) ∙ sym (ap flat one))
           c.copy_part-part.ensures.added;
       buffers =
           subst (λ (l : List Part). Grown c.args.buffers.now.mark c.args.buffers.now.lent.now l c.append.new.self.mark c.append.new.self.lent.now)
           (ap (λ (p : Part). p ∷ []) c.copy_part-part.ensures.lies
-          ∙ ap (λ (n : ℕ). (let p : Part = record { start = c.args.bytes.now.mark; len = n } in p) ∷ []) (sym long)
+          ∙ ap (λ (l : List ℕ). (let p : Part = record { start = c.args.bytes.now.mark; len = length l } in p) ∷ []) part
           ∙ sym (ap (parts_from c.args.bytes.now.mark) one))
           c.append.ensures;
       after = omega (arith, size, value);
