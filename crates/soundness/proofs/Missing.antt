@@ -1,75 +1,36 @@
-use Rattle.std.proofs.Common.{◌≡◌, ℕ, zero, suc, ◌+◌, ◌-◌, ◌<◌, ◌≤◌, Bool, true, false, cond, ltb, List, drop, Some, None, Option, sym, refl, ap, ◌∙◌, inl, inr, arith}
+use Rattle.std.proofs.Common.{◌≡◌, ℕ, Bool, cond, ltb, List, [], ◌∷◌, Some, None, Option, sym, refl, ap, ◌∙◌, inl, inr}
 use mathlib.Core.Option as math
 use Rattle.std.proofs.lemmas.Bool.{cases_Bool}
-use Rattle.columns.specs.Sent.{is_named}
 use Rattle.formats.specs.Spelled.{lifted}
-use Rattle.parcels.specs.Lent.{data_size, place_of, number_at, data_from}
-use Rattle.parcels.proofs.Lents.{place_more}
-use Rattle.soundness.specs.Ladder.{unshelved_in, unshelved, beyond_at}
-use Rattle.soundness.proofs.Held.{data_named, data_brought}
+use Rattle.parcels.specs.Lent.{data_from}
+use Rattle.columns.specs.Sent.{Data}
+use Rattle.soundness.specs.declared.sent.DataBuffer.{DataBuffer}
+use Rattle.soundness.specs.declared.sent.Sent.{Sent}
+use Rattle.soundness.specs.declared.sent.Sent.TheVariants.{Brought, Named}
+use Rattle.soundness.specs.Buffers.{buffers_from}
+use Rattle.soundness.specs.Ladder.{unshelved_in, beyond_of}
+use Rattle.soundness.proofs.Buffers.{datum, following, data_in, data_is}
+use Rattle.soundness.proofs.Mapped.{or_else, first_made}
 
--- the numbers of those that are brought do not matter
-pub unshelved_is : (parcel : List ℕ) (before n at next : ℕ) → unshelved_in before (data_from parcel at next n) ≡ unshelved parcel before at n
-unfolding data_from unshelved
-unshelved_is parcel before zero at next = refl
-unshelved_is parcel before (suc n) at next =
-    let rest : math.Option ℕ = unshelved parcel before (at + data_size parcel at) n in
-    let T : Bool → math.Option ℕ = λ b. cond b (cond (ltb (number_at parcel at) before) rest (math.some (number_at parcel at))) rest in
-    elim (cases_Bool (is_named (drop at parcel))) [
-      | inl e ↦
-          ap (unshelved_in before) (data_named parcel n at next e)
-          ∙ ap (λ (x : math.Option ℕ). cond (ltb (number_at parcel at) before) x (math.some (number_at parcel at))) (unshelved_is parcel before n (at + data_size parcel at) next)
-          ∙ ap T (sym e)
-      | inr e ↦
-          ap (unshelved_in before) (data_brought parcel n at next e)
-          ∙ unshelved_is parcel before n (at + data_size parcel at) (next + 1)
-          ∙ ap T (sym e)
+missing_by : (s : Sent) (before next : ℕ) (ds : List Data) (r : Option ℕ) → lifted (unshelved_in before ds) ≡ r → lifted (unshelved_in before (datum next s ∷ ds)) ≡ or_else (beyond_of s before) r
+missing_by (Brought len) before next ds r e = e
+missing_by (Named number) before next ds r e =
+    let rest : math.Option ℕ = unshelved_in before ds in
+    let T : Bool → Option ℕ = λ b. or_else (cond b None (Some number)) r in
+    let U : Bool → Option ℕ = λ b. lifted (cond b rest (math.some number)) in
+    elim (cases_Bool (ltb number before)) [
+      | inl l ↦ ap U l ∙ e ∙ ap T (sym l)
+      | inr l ↦ ap U l ∙ ap T (sym l)
     ]
 
--- one data buffer passed
-module _ (parcel : List ℕ) (before at n : ℕ) where
-  abbrev shelf : (named fits : Bool) → math.Option ℕ → math.Option ℕ
-  shelf b c x = cond b (cond c x (math.some (number_at parcel at))) x
+missing_in : (before next : ℕ) (bs : List DataBuffer) → lifted (unshelved_in before (data_in next bs)) ≡ first_made (λ b. beyond_of b.sent before) bs
+missing_in before next [] = refl
+missing_in before next (b ∷ bs) =
+    missing_by b.sent before next (data_in (following next b.sent) bs) (first_made (λ b. beyond_of b.sent before) bs) (missing_in before (following next b.sent) bs)
 
-  abbrev says : (named fits : Bool) → Option ℕ
-  says b c = cond b (cond c None (Some (number_at parcel at))) None
+pub missing_is : (parcel : List ℕ) (before at next n : ℕ) → lifted (unshelved_in before (data_from parcel at next n)) ≡ first_made (λ b. beyond_of b.sent before) (buffers_from parcel at n)
+missing_is parcel before at next n = ap (λ (l : List Data). lifted (unshelved_in before l)) (data_is parcel at next n) ∙ missing_in before next (buffers_from parcel at n)
 
-  none_by : (b c : Bool) (x : math.Option ℕ) → None ≡ says b c → shelf b c x ≡ x
-  none_by true true x e = refl
-  none_by true false x e = let z : ◌≡◌ {A = ℕ} 0 1 = cc in absurd (omega arith)
-  none_by false c x e = refl
-
-  some_by : (b c : Bool) (x : math.Option ℕ) (number : ℕ) → Some number ≡ says b c → shelf b c x ≡ math.some number
-  some_by true true x number e = let z : ◌≡◌ {A = ℕ} 0 1 = cc in absurd (omega arith)
-  some_by true false x number e = let z : number ≡ number_at parcel at = cc in ap math.some (sym z)
-  some_by false c x number e = let z : ◌≡◌ {A = ℕ} 0 1 = cc in absurd (omega arith)
-
-  pub passes_one : None ≡ beyond_at parcel at before → unshelved parcel before at (suc n) ≡ unshelved parcel before (at + data_size parcel at) n
-  unfolding unshelved
-  passes_one e = none_by (is_named (drop at parcel)) (ltb (number_at parcel at) before) (unshelved parcel before (at + data_size parcel at) n) e
-
-  pub stops_one : (number : ℕ) → Some number ≡ beyond_at parcel at before → unshelved parcel before at (suc n) ≡ math.some number
-  unfolding unshelved
-  stops_one number e = some_by (is_named (drop at parcel)) (ltb (number_at parcel at) before) (unshelved parcel before (at + data_size parcel at) n) number e
-
--- what is left of the list gives the whole
-abbrev pub Left : List ℕ → (before start n k at : ℕ) → Type 0
-Left parcel before start n k at = (at ≡ place_of parcel start k) × (unshelved parcel before start n ≡ unshelved parcel before at (n - k))
-
-module _ (parcel : List ℕ) (before start n k at : ℕ) (h : k < n) (l : Left parcel before start n k at) where
-  opens : unshelved parcel before start n ≡ unshelved parcel before at (suc (n - (k + 1)))
-  opens = l.1 ∙ ap (unshelved parcel before at) (let e : n - k ≡ suc (n - (k + 1)) = omega arith in e)
-
-  pub left_more : (next : ℕ) → next ≡ at + data_size parcel at → None ≡ beyond_at parcel at before → Left parcel before start n (k + 1) next
-  left_more next e b = (
-    e ∙ ap (λ (x : ℕ). x + data_size parcel x) l.0 ∙ sym (place_more parcel start k),
-    opens ∙ passes_one parcel before at (n - (k + 1)) b ∙ ap (λ (x : ℕ). unshelved parcel before x (n - (k + 1))) (sym e),
-  )
-
-  pub left_stop : (number : ℕ) → Some number ≡ beyond_at parcel at before → (next : ℕ) → lifted (unshelved_in before (data_from parcel start next n)) ≡ Some number
-  left_stop number b next = ap lifted (unshelved_is parcel before n start next ∙ opens ∙ stops_one parcel before at (n - (k + 1)) number b)
-
-pub left_none : (parcel : List ℕ) (before start n k at : ℕ) → n ≤ k → Left parcel before start n k at → (next : ℕ) → lifted (unshelved_in before (data_from parcel start next n)) ≡ None
-unfolding unshelved
-left_none parcel before start n k at h l next =
-    ap lifted (unshelved_is parcel before n start next ∙ l.1 ∙ ap (unshelved parcel before at) (let e : n - k ≡ 0 = omega arith in e))
+-- at a list of them that is given by its parts
+pub missing_of : (before : ℕ) (p q : List ℕ) (a b m n : ℕ) (r : Option ℕ) → p ≡ q → a ≡ b → m ≡ n → ((next : ℕ) → lifted (unshelved_in before (data_from p a next m)) ≡ r) → (next : ℕ) → lifted (unshelved_in before (data_from q b next n)) ≡ r
+missing_of before p q a b m n r e f g l next = cc (l next)

@@ -1,15 +1,17 @@
 -- The checks of drafts, by their data buffers as they lie in the parcel.
-use Rattle.std.specs.Prelude.{ℕ, zero, suc, ◌+◌, Bool, cond, ltb, List, ◌++◌, length, drop, Some, None, Ok, Err, Option, Result, nat_lt}
+use Rattle.std.specs.Prelude.{ℕ, Bool, cond, ltb, List, ◌++◌, length, Some, None, Ok, Err, Option, Result, nat_lt}
 use Rattle.std.proofs.Math.Option as math
 use Rattle.columns.specs.Checks.{first_failing}
 use Rattle.columns.specs.Checks as checks
-use Rattle.columns.specs.Sent.{Data, is_named}
+use Rattle.columns.specs.Sent.{Data}
 use Rattle.columns.specs.Parcel.{named_before}
 use Rattle.denials.specs.declared.Denial.{Denial}
 use Rattle.parcels.specs.declared.draft.Draft.{Draft}
-use Rattle.parcels.specs.Lent.{data_size, number_at, data_from, brought_from}
+use Rattle.parcels.specs.Lent.{data_from, brought_from}
 use Rattle.parcels.specs.Reads.{sent_of}
 use Rattle.denials.specs.Said.{said}
+use Rattle.soundness.specs.declared.sent.Sent.{Sent}
+use Rattle.soundness.specs.declared.sent.Sent.TheVariants.{Brought, Named}
 use Rattle.parcels.specs.Roles.{role_of}
 use Rattle.parcels.specs.Drafts.{sound_by, kind_sound_by, kind_in, head_in, node_in}
 
@@ -24,16 +26,10 @@ held_by parcel bs d = bs ++ brought_from parcel d.parts.lent.start d.parts.lent.
 abbrev pub unshelved_in : (before : ℕ) → List Data → math.Option ℕ
 unshelved_in before ds = first_failing (λ b. ltb b before) (named_before before ds)
 
--- the same, found in the parcel
-unfoldable pub unshelved : List ℕ → (before at n : ℕ) → math.Option ℕ
-unshelved parcel before at zero = math.none
-unshelved parcel before at (suc n) =
-    cond (is_named (drop at parcel))
-    (cond (nat_lt (number_at parcel at) before) (unshelved parcel before (at + data_size parcel at) n) (math.some (number_at parcel at)))
-    (unshelved parcel before (at + data_size parcel at) n)
-
-abbrev pub beyond_at : List ℕ → (at before : ℕ) → Option ℕ
-beyond_at parcel at before = cond (is_named (drop at parcel)) (cond (nat_lt (number_at parcel at) before) None (Some (number_at parcel at))) None
+-- a data buffer's number, where it is sent by one that was not shelved before
+abbrev pub beyond_of : Sent → (before : ℕ) → Option ℕ
+beyond_of (Brought len) before = None
+beyond_of (Named number) before = cond (nat_lt number before) None (Some number)
 
 abbrev pub kind_sound_in : List ℕ → List (List ℕ) → Draft → Bool
 kind_sound_in parcel bs d = kind_sound_by (held_by parcel bs d) (kind_in parcel d) (node_in parcel d (data_of parcel bs d)) d.below

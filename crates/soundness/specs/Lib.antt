@@ -1,3 +1,4 @@
+pub mod Buffers
 pub mod Sizes
 pub mod Sources
 pub mod Ladder

@@ -7,9 +7,9 @@ ghost use Rattle.pools.specs.Parts.{buffers_in};
 ghost use Rattle.parcels.specs.Reads.{Within};
 ghost use Rattle.parcels.specs.Lent.{data_size, readable, data_from};
 ghost use Rattle.parcels.specs.Drafts.{Drafted, checks_of};
-ghost use Rattle.soundness.specs.Ladder.{beyond_at, unshelved_in, denial_in};
+ghost use Rattle.soundness.specs.Ladder.{beyond_of, unshelved_in, denial_in};
 
-use crate::lents::{after, sent_at};
+use crate::data_buffers::DataBuffers;
 use crate::sent::Sent;
 use crate::sound::sound;
 use denials::Denial;
@@ -17,29 +17,20 @@ use parcels::draft::Draft;
 use pools::records::Part;
 
 // The number by which a data buffer is sent, where no such buffer was shelved before.
-fn beyond(parcel: &[u8], at: usize, before: usize) -> Option<usize>
-    requires { at + data_size parcel.now at ≤ length parcel.now }
-    ensures { result ≡ beyond_at parcel.now at before }
+fn beyond(sent: Sent, before: usize) -> Option<usize>
+    ensures { result ≡ beyond_of sent before }
 {
-    match sent_at(parcel, at) {
+    match sent {
         Sent::Named(number) => if number < before { None } else { Some(number) },
         Sent::Brought(_) => None,
     }
 }
 
 // The first data buffer of a list that is sent by a number and was not shelved before.
-pub(crate) fn missing(parcel: &[u8], lent: Part, before: usize) -> Option<usize>
-    requires { readable parcel.now lent.start lent.len ≡ true }
-    ensures { (next : ℕ) → lifted (unshelved_in before (data_from parcel.now lent.start next lent.len)) ≡ result }
+pub(crate) fn missing(mut lent: DataBuffers<'_>, before: usize) -> Option<usize>
+    ensures { (next : ℕ) → lifted (unshelved_in before (data_from lent.entry.parcel.now lent.entry.at next lent.entry.left)) ≡ result }
 {
-    let mut at = lent.start;
-    for _k in 0..lent.len {
-        if let Some(number) = beyond(parcel, at, before) {
-            return Some(number);
-        }
-        at = after(parcel, at);
-    }
-    None
+    lent.find_map(|buffer| beyond(buffer.sent, before))
 }
 
 // The first denial of the drafts, by node: a data buffer that is not shelved, then unsound.
@@ -52,9 +43,9 @@ pub fn first_denied(
     requires { (AllByRecursion (Drafted parcel.now) drafts.now) × (AllByRecursion (Within bytes.now) buffers.now) }
     ensures { first_denial (checks_of parcel.now (length buffers.now) (buffers_in bytes.now buffers.now) 0 drafts.now) ≡ denial_in result }
 {
-    for i in 0..drafts.len() {
-        let d = drafts[i];
-        if let Some(number) = missing(parcel, d.parts.lent, buffers.len()) {
+    for (i, draft) in drafts.iter().enumerate() {
+        let d = *draft;
+        if let Some(number) = missing(DataBuffers::of(parcel, d.parts.lent), buffers.len()) {
             return Err(Denial::Missing(number));
         }
         if !sound(parcel, bytes, buffers, d) {

@@ -1,6 +1,7 @@
 // Whether the nodes of a parcel are sound.
 #![tactic(auto)]
 
+pub mod data_buffers;
 pub mod ends;
 pub mod fill;
 pub mod kinds;

@@ -1,25 +1,29 @@
-use Rattle.std.proofs.Common.{ℕ, List, ◌++◌, length, get_or, refl}
+use Rattle.std.proofs.Common.{ℕ, List, ◌++◌, length, get_or, refl, ◌∙◌}
 use Rattle.std.proofs.lemmas.List.{drop_more}
 use Rattle.std.proofs.ByRecursion.{All-get_or}
 use Rattle.pools.specs.Parts.{buffers_in}
 use Rattle.parcels.specs.Drafts.{Drafted}
 use Rattle.soundness.specs.Ladder.{data_of, unshelved_in}
+use Rattle.soundness.proofs.Missing.{missing_of}
 use Rattle.soundness.proofs.Rungs.{blank, rung_start, rung_all, rung_missing, rung_unsound, rung_more, unlifted_none}
 use Rattle.soundness.proofs.ladder.first_denied.Goals as goal
 
 pub loop-i-init : goal.loop-i-init
 loop-i-init c = rung_start c.args.parcel.now (length c.args.buffers.now) (buffers_in c.args.bytes.now c.args.buffers.now) c.args.drafts.now
 
-pub missing-requires : goal.missing-requires
-missing-requires c = (All-get_or (Drafted c.args.parcel.now) c.args.drafts.now c.loop-i.i blank c.loop-i-test.true c.requires.0).lent
+pub of-requires : goal.of-requires
+of-requires c = (All-get_or (Drafted c.args.parcel.now) c.args.drafts.now c.loop-i.i blank c.loop-i-test.true c.requires.0).lent
 
 pub returns-in-Some : goal.returns-in-Some
 returns-in-Some c =
     let D = c.args.drafts.now in
     let i = c.loop-i.i in
     let bs : List (List ℕ) = buffers_in c.args.bytes.now c.args.buffers.now ++ c.loop-i.invariant.more in
+    let d = get_or D i blank in
     let k = All-get_or (Drafted c.args.parcel.now) D i blank c.loop-i-test.true c.requires.0 in
-    rung_missing c.args.parcel.now (length c.args.buffers.now) (buffers_in c.args.bytes.now c.args.buffers.now) D i c.loop-i.invariant (get_or D i blank) k (drop_more D i blank c.loop-i-test.true) c.in-Some.number (c.in-Some.ensures (length bs))
+    let l = c.of.result in
+    rung_missing c.args.parcel.now (length c.args.buffers.now) (buffers_in c.args.bytes.now c.args.buffers.now) D i c.loop-i.invariant d k (drop_more D i blank c.loop-i-test.true) c.in-Some.number
+    (missing_of (length c.args.buffers.now) l.parcel.now c.args.parcel.now l.at d.parts.lent.start l.left d.parts.lent.len c.missing.result c.of.ensures.among c.of.ensures.first c.of.ensures.count c.missing.ensures (length bs) ∙ c.in-Some.is)
 
 pub sound-requires : goal.sound-requires
 sound-requires c = (All-get_or (Drafted c.args.parcel.now) c.args.drafts.now c.loop-i.i blank c.loop-i-test.true c.requires.0, c.requires.1)
@@ -31,7 +35,8 @@ returns-then-not-sound c =
     let d = get_or D i blank in
     let bs : List (List ℕ) = buffers_in c.args.bytes.now c.args.buffers.now ++ c.loop-i.invariant.more in
     let k = All-get_or (Drafted c.args.parcel.now) D i blank c.loop-i-test.true c.requires.0 in
-    let e = c.in_default.ensures (length bs) in
+    let l = c.of.result in
+    let e = missing_of (length c.args.buffers.now) l.parcel.now c.args.parcel.now l.at d.parts.lent.start l.left d.parts.lent.len c.missing.result c.of.ensures.among c.of.ensures.first c.of.ensures.count c.missing.ensures (length bs) ∙ c.in_default.is in
     let u = unlifted_none (unshelved_in (length c.args.buffers.now) (data_of c.args.parcel.now bs d)) e in
     rung_unsound c.args.parcel.now (length c.args.buffers.now) (buffers_in c.args.bytes.now c.args.buffers.now) D i c.loop-i.invariant d k (drop_more D i blank c.loop-i-test.true) e _ (c.if-not-sound.ensures c.loop-i.invariant.more u) refl
 
@@ -42,7 +47,8 @@ loop-i-preserved c =
     let d = get_or D i blank in
     let bs : List (List ℕ) = buffers_in c.args.bytes.now c.args.buffers.now ++ c.loop-i.invariant.more in
     let k = All-get_or (Drafted c.args.parcel.now) D i blank c.loop-i-test.true c.requires.0 in
-    let e = c.in_default.ensures (length bs) in
+    let l = c.of.result in
+    let e = missing_of (length c.args.buffers.now) l.parcel.now c.args.parcel.now l.at d.parts.lent.start l.left d.parts.lent.len c.missing.result c.of.ensures.among c.of.ensures.first c.of.ensures.count c.missing.ensures (length bs) ∙ c.in_default.is in
     let u = unlifted_none (unshelved_in (length c.args.buffers.now) (data_of c.args.parcel.now bs d)) e in
     rung_more c.args.parcel.now (length c.args.buffers.now) (buffers_in c.args.bytes.now c.args.buffers.now) D i c.loop-i.invariant d k (drop_more D i blank c.loop-i-test.true) e _ (c.if-not-sound.ensures c.loop-i.invariant.more u) refl
 
