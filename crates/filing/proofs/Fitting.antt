@@ -22,12 +22,11 @@ use Rattle.filing.specs.Lent.{flat}
 use Rattle.filing.specs.Masks.{mask_len, mask_sent}
 use Rattle.filing.specs.Plans.{plan_of, body_bytes}
 use Rattle.filing.specs.News.{Room, node_news, plan_in, own_bytes, brought_by, brought_start}
-use Rattle.filing.specs.Halves.{halves_at}
 use Rattle.columns.specs.Contents.{value_at}
 use Rattle.pools.specs.declared.pools.Pools.{Pools}
 use Rattle.pools.specs.declared.pools.Marks.{Marks}
 use Rattle.pools.specs.declared.records.Node.{Node as Entry}
-use Rattle.filing.proofs.Numbers.{slice_fits}
+use Rattle.filing.proofs.Numbers.{slice_fits, halves_at}
 use Rattle.filing.proofs.Lents.{data_count, parts_length}
 
 pub fit_less : {X : Type 0} {p : Pool X} (n m : ℕ) → m ≤ n → Fit p n → Fit p m
@@ -61,18 +60,18 @@ none_brought parcel at n = omega arith
 eq_le : {a b : ℕ} → a ≡ b → a ≤ b
 eq_le {a} {b} e = omega arith
 
--- the parts and counts of a plan lie within what the parcel has
-pub record PlanFits (parcel : List ℕ) (x : Parts) (p : Plan) : Type 0 where
+-- the parts and counts of a plan lie within what the parcel has, and within a body of so many bytes
+pub record PlanFits (parcel : List ℕ) (x : Parts) (size : ℕ) (p : Plan) : Type 0 where
   pub plain : Within parcel p.plain
-  pub shorts : 2 * p.shorts ≤ x.body.len
-  pub words : 4 * p.words ≤ x.body.len
-  pub longs : 8 * p.longs ≤ x.body.len
-  pub offsets : wide_bytes p.wide * p.offsets ≤ x.body.len
-  pub views : 16 * p.views ≤ x.body.len
+  pub shorts : 2 * p.shorts ≤ size
+  pub words : 4 * p.words ≤ size
+  pub longs : 8 * p.longs ≤ size
+  pub offsets : wide_bytes p.wide * p.offsets ≤ size
+  pub views : 16 * p.views ≤ size
   pub list : readable parcel p.list.start p.list.len ≡ true
   pub new : length (brought_from parcel p.list.start p.list.len) ≤ length (brought_from parcel x.lent.start x.lent.len)
 
-plan_fits : (parcel : List ℕ) (k : Kind) (x : Parts) (n : ℕ) → Inside parcel x → readable parcel x.lent.start x.lent.len ≡ true → x.body.len ≡ body_bytes k n → PlanFits parcel x (plan_of k x n)
+plan_fits : (parcel : List ℕ) (k : Kind) (x : Parts) (n : ℕ) → Inside parcel x → readable parcel x.lent.start x.lent.len ≡ true → x.body.len ≡ body_bytes k n → PlanFits parcel x x.body.len (plan_of k x n)
 plan_fits parcel (Primitive One) x n i r h =
     let b : Part = x.body in
     record { plain = i.body; shorts = omega arith; words = omega arith; longs = omega arith; offsets = omega arith; views = omega arith; list = none_readable parcel 0; new = none_brought parcel 0 (length (brought_from parcel x.lent.start x.lent.len)) }
@@ -110,8 +109,11 @@ plan_fits parcel (FixedList size) x n i r h =
     let b : Part = x.body in
     record { plain = omega arith; shorts = omega arith; words = omega arith; longs = omega arith; offsets = omega arith; views = omega arith; list = none_readable parcel 0; new = none_brought parcel 0 (length (brought_from parcel x.lent.start x.lent.len)) }
 
-pub plan_within : (parcel : List ℕ) (d : Draft) (p : Plan) → p ≡ plan_in d → Drafted parcel d → d.parts.body.len ≡ body_bytes d.kind d.head.rows → PlanFits parcel d.parts p
-plan_within parcel d p e h b = subst (PlanFits parcel d.parts) (sym e) (plan_fits parcel d.kind d.parts d.head.rows h.parts h.lent b)
+pub plan_within : (parcel : List ℕ) (d : Draft) (p : Plan) → p ≡ plan_in d → Drafted parcel d → d.parts.body.len ≡ body_bytes d.kind d.head.rows
+    → (body : List ℕ) → body ≡ within parcel d.parts.body → PlanFits parcel d.parts (length body) p
+plan_within parcel d p e h b body is =
+    subst (λ (n : ℕ). PlanFits parcel d.parts n p) (sym (ap length is ∙ part_length parcel d.parts.body h.parts.body))
+    (subst (PlanFits parcel d.parts d.parts.body.len) (sym e) (plan_fits parcel d.kind d.parts d.head.rows h.parts h.lent b))
 
 -- what is taken of a draft byte by byte
 pub own_length : (parcel : List ℕ) (d : Draft) → Drafted parcel d → Within parcel (plan_in d).plain → length (own_bytes parcel d) ≡ d.head.format.len + (mask_len d.parts.mask + (plan_in d).plain.len)

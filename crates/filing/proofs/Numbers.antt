@@ -1,16 +1,18 @@
--- Numbers that lie in a part of a parcel.
-use Rattle.std.proofs.Common.{◌≡◌, ℕ, zero, suc, ◌+◌, ◌-◌, ◌*◌, ◌<◌, ◌≤◌, min, List, [], ◌∷◌, ◌++◌, map, length, get_or, take, drop, sym, ap, ◌∙◌, subst, ap₂, add-zero, zero-add, arith, length-drop, length-take}
-use Rattle.std.proofs.lemmas.List.{map-append, drop_more, drop-drop, take-take, drop-take, take-append-drop}
-use Rattle.std.proofs.ByRecursion.{All-append}
+-- Entries that lie in a part of a parcel.
+use Rattle.std.proofs.Common.{◌≡◌, ℕ, zero, suc, ◌+◌, ◌*◌, ◌≤◌, min, List, [], ◌∷◌, ◌++◌, map, length, drop, sym, refl, ap, ◌∙◌, subst, ap₂, add-zero, zero-add, arith, length-drop, length-take}
+use Rattle.std.specs.List.{AllZip, each_same}
+use Rattle.std.proofs.lemmas.List.{map-append, take-take, drop-take}
 use Rattle.columns.specs.Says.{span, slice}
 use Rattle.columns.specs.Sound.{little_endian}
-use Rattle.columns.specs.Contents.{value_at, view_in, views_in}
+use Rattle.columns.specs.Contents.{view_in, views_in}
 use Rattle.columns.specs.Column.{View}
 use Rattle.columns.specs.Bytes.{view_of_halves}
-use Rattle.columns.proofs.Bytes.{views_read_back}
-use Rattle.pools.specs.Held.{view_from}
-use Rattle.filing.specs.Halves.{halves_at, halves_in}
 use Rattle.columns.specs.Widths.{Bytes}
+use Rattle.columns.proofs.Bytes.{views_read_back}
+use Rattle.columns.proofs.Reading.{bytes_slice}
+use Rattle.pools.specs.declared.records.View.{View as Halves}
+use Rattle.pools.specs.Laid.{halves_in, entries_in}
+use Rattle.pools.specs.Held.{view_from}
 use Rattle.pools.specs.Grown.{Grown}
 use Rattle.pools.proofs.Growing.{grown_then}
 
@@ -23,85 +25,46 @@ span_more a (suc n) =
 pub map_span_more : {Y : Type 0} (f : ℕ → Y) (n : ℕ) → map f (span 0 (n + 1)) ≡ map f (span 0 n) ++ f n ∷ []
 map_span_more {Y} f n = ap (map f) (span_more 0 n) ∙ map-append f (span 0 n) ((0 + n) ∷ []) ∙ ap (λ (k : ℕ). map f (span 0 n) ++ f k ∷ []) (zero-add n)
 
--- one more at a loop over numbers
-pub grown_span : {Y : Type 0} {m m1 m2 : ℕ} {xs xs1 xs2 : List Y} (f : ℕ → Y) (i : ℕ) (y : Y) → y ≡ f i
-    → Grown m xs (map f (span 0 i)) m1 xs1 → Grown m1 xs1 (y ∷ []) m2 xs2 → Grown m xs (map f (span 0 (i + 1))) m2 xs2
-grown_span {Y} {m} {m1} {m2} {xs} {xs1} {xs2} f i y e p q =
-    subst (λ (new : List Y). Grown m xs new m2 xs2) (ap (λ (z : Y). map f (span 0 i) ++ z ∷ []) e ∙ sym (map_span_more f i)) (grown_then p q)
+-- one more on each side
+zip_more : {X Y : Type 0} (R : X → Y → Type 0) (xs : List X) (ys : List Y) (x : X) (y : Y) → AllZip R xs ys → R x y → AllZip R (xs ++ x ∷ []) (ys ++ y ∷ [])
+zip_more R [] [] x y a h = (h, a)
+zip_more R [] (z ∷ ys) x y a h = absurd a
+zip_more R (z ∷ xs) [] x y a h = absurd a
+zip_more R (z ∷ xs) (w ∷ ys) x y a h = (a.0, zip_more R xs ys x y a.1 h)
 
--- a part of a part
-pub slice_slice : {X : Type 0} (xs : List X) (a n b m : ℕ) → b + m ≤ n → slice (slice xs a n) b m ≡ slice xs (a + b) m
-slice_slice {X} xs a n b m h =
-    let split : n ≡ b + (n - b) = omega arith in
-    ap (λ (k : ℕ). take m (drop b (take k (drop a xs)))) split ∙ ap (take m) (drop-take b (n - b) (drop a xs))
-    ∙ take-take m (n - b) (drop b (drop a xs)) (omega arith) ∙ ap (take m) (drop-drop b a xs)
+-- one more at a loop over entries
+pub made_more : {X Y : Type 0} {m m1 m2 : ℕ} {ys ys1 ys2 : List Y} (R : X → Y → Type 0) (f : ℕ → X) (i : ℕ) (new : List Y) (x : X) (y : Y) → x ≡ f i → R x y
+    → AllZip R (map f (span 0 i)) new → Grown m ys new m1 ys1 → Grown m1 ys1 (y ∷ []) m2 ys2
+    → (all : List Y) × AllZip R (map f (span 0 (i + 1))) all × Grown m ys all m2 ys2
+made_more R f i new x y e r a p q = (
+  new ++ y ∷ [],
+  subst (λ xs. AllZip R xs (new ++ y ∷ [])) (sym (map_span_more f i)) (zip_more R (map f (span 0 i)) new (f i) y a (subst (λ z. R z y) e r)),
+  grown_then p q,
+)
 
-pub value_in : (xs : List ℕ) (a n w i : ℕ) → w * i + w ≤ n → little_endian (slice xs (a + w * i) w) ≡ value_at w (slice xs a n) i
-value_in xs a n w i h = ap little_endian (sym (slice_slice xs a n (w * i) w h))
+-- of two lists that are equal place by place, what was added is the one
+pub made_same : {X : Type 0} {m m1 : ℕ} {ys ys1 : List X} (xs : List X) → (new : List X) × AllZip (λ x y. y ≡ x) xs new × Grown m ys new m1 ys1 → Grown m ys xs m1 ys1
+made_same {X} {m} {m1} {ys} {ys1} xs h = subst (λ (new : List X). Grown m ys new m1 ys1) (each_same xs h.0 h.1) h.2
 
--- a slice by its first entry
-pub slice_first : {X : Type 0} (xs : List X) (at n : ℕ) (d : X) → at < length xs → slice xs at (suc n) ≡ get_or xs at d ∷ slice xs (at + 1) n
-slice_first xs at n d h = ap (take (suc n)) (drop_more xs at d h)
-
-pub slice_two : (xs : List ℕ) (at : ℕ) → at + 2 ≤ length xs → slice xs at 2 ≡ get_or xs at 0 ∷ get_or xs (at + 1) 0 ∷ []
-slice_two xs at h =
-    slice_first xs at 1 0 (omega arith) ∙ ap (λ (l : List ℕ). get_or xs at 0 ∷ l) (slice_first xs (at + 1) 0 0 (omega arith))
-
-pub slice_four : (xs : List ℕ) (at : ℕ) → at + 4 ≤ length xs
-    → slice xs at 4 ≡ get_or xs at 0 ∷ get_or xs (at + 1) 0 ∷ get_or xs (at + 2) 0 ∷ get_or xs (at + 3) 0 ∷ []
-slice_four xs at h =
-    let two : slice xs (at + 2) 2 ≡ get_or xs (at + 2) 0 ∷ get_or xs (at + 3) 0 ∷ [] =
-    slice_two xs (at + 2) (omega arith) ∙ ap (λ (k : ℕ). get_or xs (at + 2) 0 ∷ get_or xs k 0 ∷ []) (let e : at + 2 + 1 ≡ at + 3 = omega arith in e) in
-    let next : at + 1 + 1 ≡ at + 2 = omega arith in
-    slice_first xs at 3 0 (omega arith)
-    ∙ ap (λ (l : List ℕ). get_or xs at 0 ∷ l) (slice_first xs (at + 1) 2 0 (omega arith) ∙ ap (λ (k : ℕ). get_or xs (at + 1) 0 ∷ slice xs k 2) next ∙ ap (λ (l : List ℕ). get_or xs (at + 1) 0 ∷ l) two)
-
-pub slice_eight : (xs : List ℕ) (at : ℕ) → at + 8 ≤ length xs → slice xs at 8 ≡ slice xs at 4 ++ slice xs (at + 4) 4
-slice_eight xs at h =
-    let one : (k n : ℕ) → k < length xs → slice xs k (suc n) ≡ get_or xs k 0 ∷ slice xs (k + 1) n = λ k n l. slice_first xs k n 0 l in
-    let a : at + 1 + 1 ≡ at + 2 = omega arith in
-    let b : at + 2 + 1 ≡ at + 3 = omega arith in
-    let c : at + 3 + 1 ≡ at + 4 = omega arith in
-    one at 7 (omega arith)
-    ∙ ap (λ (l : List ℕ). get_or xs at 0 ∷ l) (one (at + 1) 6 (omega arith) ∙ ap (λ (k : ℕ). get_or xs (at + 1) 0 ∷ slice xs k 6) a
-    ∙ ap (λ (l : List ℕ). get_or xs (at + 1) 0 ∷ l) (one (at + 2) 5 (omega arith) ∙ ap (λ (k : ℕ). get_or xs (at + 2) 0 ∷ slice xs k 5) b
-    ∙ ap (λ (l : List ℕ). get_or xs (at + 2) 0 ∷ l) (one (at + 3) 4 (omega arith) ∙ ap (λ (k : ℕ). get_or xs (at + 3) 0 ∷ slice xs k 4) c)))
-    ∙ ap (λ (l : List ℕ). l ++ slice xs (at + 4) 4) (sym (slice_four xs at (omega arith)))
-
--- a loop over numbers, at its end
-pub grown_count : {Y : Type 0} {m m1 : ℕ} {xs xs1 : List Y} (f : ℕ → Y) (i n : ℕ) → n ≤ i → i ≤ n → Grown m xs (map f (span 0 i)) m1 xs1 → Grown m xs (map f (span 0 n)) m1 xs1
-grown_count {Y} {m} {m1} {xs} {xs1} f i n h k g = subst (λ (j : ℕ). Grown m xs (map f (span 0 j)) m1 xs1) (let e : i ≡ n = omega arith in e) g
-
--- a view by its halves
-half_low : (bytes : List ℕ) (a : ℕ) → take 8 (slice bytes a 16) ≡ slice bytes a 8
-half_low bytes a = take-take 8 16 (drop a bytes) (omega arith)
-
-half_high : (bytes : List ℕ) (a : ℕ) → drop 8 (slice bytes a 16) ≡ slice bytes (a + 8) 8
-half_high bytes a = drop-take 8 8 (drop a bytes) ∙ ap (take 8) (drop-drop 8 a bytes)
-
-sixteen : (bytes : List ℕ) (a : ℕ) → slice bytes a 16 ≡ slice bytes a 8 ++ slice bytes (a + 8) 8
-sixteen bytes a = sym (take-append-drop 8 (slice bytes a 16)) ∙ ap₂ (λ (x y : List ℕ). x ++ y) (half_low bytes a) (half_high bytes a)
-
-view_told : (bytes : List ℕ) (i : ℕ) → 16 * i + 16 ≤ length bytes → Bytes (slice bytes (16 * i) 8) → Bytes (slice bytes (16 * i + 8) 8)
-    → view_from (halves_at bytes i) ≡ view_in (slice bytes (16 * i) 16)
-view_told bytes i h p q =
-    let all : Bytes (slice bytes (16 * i) 16) = subst Bytes (sym (sixteen bytes (16 * i))) (All-append (λ (k : ℕ). k < 256) (slice bytes (16 * i) 8) (slice bytes (16 * i + 8) 8) p q) in
-    sym
-    (views_read_back.read (slice bytes (16 * i) 16) (length-take 16 (drop (16 * i) bytes) ∙ (let e = length-drop (16 * i) bytes in let z : min 16 (length (drop (16 * i) bytes)) ≡ 16 = omega arith in z)) all
-    ∙ ap₂ (λ (x y : List ℕ). view_of_halves (little_endian x) (little_endian y)) (half_low bytes (16 * i)) (half_high bytes (16 * i)))
-
--- one more view told
-pub views_more : (bytes : List ℕ) (i : ℕ) → 16 * i + 16 ≤ length bytes → Bytes (slice bytes (16 * i) 8) → Bytes (slice bytes (16 * i + 8) 8)
-    → map view_from (halves_in i bytes) ≡ views_in i bytes → map view_from (halves_in (i + 1) bytes) ≡ views_in (i + 1) bytes
-views_more bytes i h p q e =
-    ap (map view_from) (map_span_more (halves_at bytes) i) ∙ map-append view_from (halves_in i bytes) (halves_at bytes i ∷ [])
-    ∙ ap₂ (λ (l : List View) (v : View). l ++ v ∷ []) e (view_told bytes i h p q) ∙ sym (map_span_more (λ (k : ℕ). view_in (slice bytes (16 * k) 16)) i)
-
-pub half_read : (xs : List ℕ) (a n i : ℕ) → 16 * i + 16 ≤ n → slice xs (a + 16 * i) 8 ≡ slice (slice xs a n) (16 * i) 8
-half_read xs a n i h = sym (slice_slice xs a n (16 * i) 8 (omega arith))
-
-pub high_read : (xs : List ℕ) (a n i : ℕ) → 16 * i + 16 ≤ n → slice xs (a + 16 * i + 8) 8 ≡ slice (slice xs a n) (16 * i + 8) 8
-high_read xs a n i h = ap (λ (k : ℕ). slice xs k 8) (let e : a + 16 * i + 8 ≡ a + (16 * i + 8) = omega arith in e) ∙ sym (slice_slice xs a n (16 * i + 8) 8 (omega arith))
-
+-- a part is as long as it says
 pub slice_fits : {X : Type 0} (xs : List X) (a n : ℕ) → a + n ≤ length xs → length (slice xs a n) ≡ n
 slice_fits xs a n h = length-take n (drop a xs) ∙ (let e = length-drop a xs in let z : min n (length (drop a xs)) ≡ n = omega arith in z)
+
+-- a view by its halves
+abbrev pub halves_at : List ℕ → ℕ → Halves
+halves_at bytes i = halves_in (drop (16 * i) bytes)
+
+view_told : (bytes : List ℕ) (i : ℕ) → 16 * i + 16 ≤ length bytes → Bytes bytes → view_from (halves_at bytes i) ≡ view_in (slice bytes (16 * i) 16)
+view_told bytes i h b =
+    let xs : List ℕ = drop (16 * i) bytes in
+    sym
+    (views_read_back.read (slice bytes (16 * i) 16) (slice_fits bytes (16 * i) 16 h) (bytes_slice bytes (16 * i) 16 b)
+    ∙ ap₂ (λ (x y : List ℕ). view_of_halves (little_endian x) (little_endian y)) (take-take 8 16 xs (omega arith)) (drop-take 8 8 xs))
+
+pub views_told : (bytes : List ℕ) (n : ℕ) → 16 * n ≤ length bytes → Bytes bytes → map view_from (entries_in halves_in 16 n bytes) ≡ views_in n bytes
+views_told bytes zero h b = refl
+views_told bytes (suc n) h b =
+    subst (λ (k : ℕ). map view_from (entries_in halves_in 16 k bytes) ≡ views_in k bytes) (let e : n + 1 ≡ suc n = omega arith in e)
+    (ap (map view_from) (map_span_more (halves_at bytes) n) ∙ map-append view_from (entries_in halves_in 16 n bytes) (halves_at bytes n ∷ [])
+    ∙ ap₂ (λ (l : List View) (v : View). l ++ v ∷ []) (views_told bytes n (omega arith) b) (view_told bytes n (omega arith) b)
+    ∙ sym (map_span_more (λ (k : ℕ). view_in (slice bytes (16 * k) 16)) n))

@@ -1,4 +1,4 @@
-use Rattle.std.proofs.Common.{◌≡◌, ℕ, ◌+◌, ◌-◌, drop, sym, ap, ◌∙◌, arith}
+use Rattle.std.proofs.Common.{◌≡◌, ℕ, ◌+◌, ◌-◌, drop, slice_index, sym, ap, ◌∙◌, arith}
 use Rattle.filing.specs.Row.{spanned}
 use Rattle.filing.proofs.Spanning.{spanned_more, spanned_none}
 use Rattle.filing.proofs.spans.span_at.Goals as goal
@@ -8,7 +8,8 @@ next : (c : goal.After-size_at-span)
     → c.size_at-span.result + spanned (c.args.children - (c.loop-k._k + 1)) (drop (c.args.at + c.loop-k.span + c.size_at-span.result) c.args.spans.now)
     ≡ spanned (c.args.children - c.loop-k._k) (drop (c.args.at + c.loop-k.span) c.args.spans.now)
 next c =
-    ap (λ (v : ℕ). v + spanned (c.args.children - (c.loop-k._k + 1)) (drop (c.args.at + c.loop-k.span + v) c.args.spans.now)) c.size_at-span.ensures
+    ap (λ (v : ℕ). v + spanned (c.args.children - (c.loop-k._k + 1)) (drop (c.args.at + c.loop-k.span + v) c.args.spans.now))
+    (c.size_at-span.ensures ∙ ap (λ (k : ℕ). slice_index c.args.spans.now (c.args.at + k)) c.from.ensures)
     ∙ spanned_more c.args.spans.now (c.args.at + c.loop-k.span) c.loop-k._k c.args.children c.loop-k-test.true
 
 pub overflow_add-span : goal.overflow_add-span

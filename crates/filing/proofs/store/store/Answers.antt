@@ -1,4 +1,4 @@
-use Rattle.std.proofs.Common.{ℕ, ◌-◌, List, map, length, ap, subst, arith, length-take}
+use Rattle.std.proofs.Common.{ℕ, List, map, length, ap, subst, arith}
 use lib.ListN.{length-map}
 use Rattle.pools.specs.declared.records.ColumnEntry.{ColumnEntry}
 use Rattle.pools.proofs.Keeping.{kept_then, ready_after}
@@ -9,16 +9,11 @@ use Rattle.filing.specs.Filed.{takes_all, Filed}
 use Rattle.filing.proofs.Spanning.{spans_length}
 use Rattle.filing.proofs.Plain.{plain}
 use Rattle.filing.proofs.Accepting.{told, no_columns, with_columns, kept_column, fits_column, shown}
-use Rattle.filing.proofs.store.store_by.Goals as goal
+use Rattle.filing.proofs.store.store.Goals as goal
 
-pub fill_spans-requires : goal.fill_spans-requires
-fill_spans-requires c =
-    let t = plain c.args.pools.now c.args.parcel.now c.args.drafts.now c.requires.ready c.requires.drafted c.requires.few c.requires.accepted in
-    record {
-      same = omega (arith, length-take (length c.args.drafts.now - 0) c.args.table.now, c.requires.table);
-      low = c.requires.few;
-      few = t.low;
-    }
+pub fill_spans-requires-clause-few : goal.fill_spans-requires-clause-few
+fill_spans-requires-clause-few c =
+    (plain c.args.pools.now c.args.parcel.now c.args.drafts.now c.requires.ready c.requires.drafted c.requires.few c.requires.accepted).low
 
 pub append-requires : goal.append-requires
 append-requires c =
