@@ -6,22 +6,28 @@ ghost use Rattle.columns.specs.Heads.{allowed as allowedBy};
 ghost use Rattle.formats.specs.Spelled.{format_meant};
 ghost use Rattle.parcels.specs.Roles.{role_of, head_with, role_meant, allowed_meant, free_role};
 
-use crate::draft::{Head, Role};
+use crate::draft::{Head, Role, Sends};
 use formats::format::{Family, Format, Width};
 
+const MOST_ROWS: u32 = 1_048_576;
+
+const MOST_NODES: usize = 256;
+
 // Whether a kind has a first buffer after its mask, a text buffer and data buffers.
-pub fn sends(format: Format) -> (bool, bool, bool)
-    ensures { result ≡ sendsOf (format_meant format.entry).kind }
+pub fn sends(format: Format) -> Sends
+    ensures { (result.body, result.text, result.lent) ≡ sendsOf (format_meant format.entry).kind }
 {
-    match format {
-        Format::Primitive(_, _) | Format::Timestamp { .. } | Format::Boolean => (
-            true, false, false,
-        ),
+    let (body, text, lent) = match format {
+        Format::Primitive(_, _)
+        | Format::Timestamp { .. }
+        | Format::Boolean
+        | Format::List { .. }
+        | Format::Map => (true, false, false),
         Format::Text { .. } => (true, true, false),
         Format::View => (true, false, true),
-        Format::List { .. } | Format::Map => (true, false, false),
         Format::Struct | Format::RunEnds | Format::FixedList(_) => (false, false, false),
-    }
+    };
+    Sends { body, text, lent }
 }
 
 // How many children a node has; a struct has as many as it says.
@@ -43,31 +49,22 @@ fn children_of(format: Format, said: u8) -> u8
 fn mask_fits(format: Format, masked: bool) -> bool
     ensures { result ≡ not (is_run_ended (format_meant format.entry).kind && masked) }
 {
-    match format {
-        Format::RunEnds => !masked,
-        _ => true,
-    }
+    !(masked && matches!(format, Format::RunEnds))
 }
 
 fn can_end(format: Format) -> bool
     ensures { result ≡ (format_meant format.entry).ends }
 {
-    match format {
-        Format::Primitive(Family::Signed, width) => match width {
-            Width::One => false,
-            _ => true,
-        },
-        _ => false,
-    }
+    matches!(
+        format,
+        Format::Primitive(Family::Signed, Width::Two | Width::Four | Width::Eight)
+    )
 }
 
 fn is_struct(format: Format) -> bool
     ensures { result ≡ (format_meant format.entry).struct }
 {
-    match format {
-        Format::Struct => true,
-        _ => false,
-    }
+    matches!(format, Format::Struct)
 }
 
 fn role_fits(role: Role, format: Format, masked: bool, children: u8) -> bool
@@ -98,7 +95,7 @@ pub fn allowed(levels: u8, role: Role, format: Format, h: Head, nodes: usize) ->
     h.children == children_of(format, h.children)
         && mask_fits(format, h.masked)
         && role_fits(role, format, h.masked, h.children)
-        && h.rows <= 1048576
-        && nodes <= 256
+        && h.rows <= MOST_ROWS
+        && nodes <= MOST_NODES
         && levels > 0
 }

@@ -6,5 +6,6 @@ pub mod begin;
 pub mod draft;
 pub mod items;
 pub mod node;
-pub mod opened;
 pub mod parts;
+mod reader;
+pub mod sent;
