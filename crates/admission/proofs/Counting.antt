@@ -1,10 +1,9 @@
-use Rattle.std.proofs.Common.{◌≡◌, ℕ, suc, ◌+◌, ◌-◌, ◌*◌, ◌<◌, ◌≤◌, Bool, true, false, cond, List, [], ◌∷◌, map, length, drop, sym, refl, ap, ◌∙◌, subst, inl, inr, add-zero, add_assoc, arith}
+use Rattle.std.proofs.Common.{◌≡◌, ℕ, ◌+◌, ◌*◌, ◌<◌, ◌≤◌, Bool, true, cond, List, [], ◌∷◌, map, length, drop, sym, refl, ap, ◌∙◌, add-zero, add_assoc, arith}
 use Rattle.std.proofs.lemmas.List.{drop_all, length-take-le, length-drop}
-use Rattle.std.proofs.lemmas.Bool.{cases_Bool}
-use Rattle.columns.specs.Sent.{is_named, buffer_length}
+use Rattle.columns.specs.Says.{slice}
+use Rattle.columns.specs.Sent.{buffer_length}
 use Rattle.columns.specs.Pools.{plus, sum_of}
-use Rattle.parcels.specs.Lent.{data_size, place_of, readable, bytes_at, brought_from}
-use Rattle.parcels.proofs.Lents.{place_more, readable_at}
+use Rattle.parcels.specs.Lent.{data_size, readable, brought_from}
 use Rattle.std.specs.List.{AllByRecursion}
 use Rattle.std.proofs.ByRecursion.{All-weaker}
 use Rattle.columns.specs.Column.{bytes_for}
@@ -16,84 +15,74 @@ use Rattle.formats.specs.declared.kind.Kind.TheVariants.{List as ListOf}
 use Rattle.parcels.specs.declared.draft.Draft.{Draft}
 use Rattle.admission.specs.declared.entries.Entries.{Entries}
 use Rattle.admission.specs.Needs.{listed, one_new, one_bytes, width_entries, kind_entries, draft_entries, drafts_need}
-use Rattle.soundness.proofs.Held.{none_brought, one_brought}
+use Rattle.soundness.specs.declared.sent.DataBuffer.{DataBuffer}
+use Rattle.soundness.specs.declared.sent.Sent.{Sent}
+use Rattle.soundness.specs.declared.sent.Sent.TheVariants.{Brought, Named}
+use Rattle.soundness.specs.Buffers.{buffers_from}
+use Rattle.soundness.specs.Sources.{SentAt}
+use Rattle.soundness.proofs.Buffers.{Told, bytes_then, brought_in, brought_is, buffers_told, length_buffers}
 
-module _ (parcel : List ℕ) (n at : ℕ) (fits : at + data_size parcel at ≤ length parcel) where
-  abbrev next : ℕ
-  next = at + data_size parcel at
+-- the data buffers of a list that are brought, and their bytes
+abbrev pub new_in : List DataBuffer → ℕ
+new_in [] = 0
+new_in (b ∷ bs) = one_new b.sent + new_in bs
 
-  bytes_count : is_named (drop at parcel) ≡ false → length (bytes_at parcel at) ≡ buffer_length (drop at parcel)
-  bytes_count e =
-      let s : data_size parcel at ≡ 4 + buffer_length (drop at parcel) = ap (λ (b : Bool). cond b 4 (4 + buffer_length (drop at parcel))) e in
-      length-take-le (buffer_length (drop at parcel)) (drop (at + 4) parcel) (simp length-drop (omega arith))
+abbrev pub size_in : List DataBuffer → ℕ
+size_in [] = 0
+size_in (b ∷ bs) = one_bytes b.sent + size_in bs
 
-  pub count_open : length (brought_from parcel at (suc n)) ≡ one_new parcel at + length (brought_from parcel next n)
-  count_open =
-      elim (cases_Bool (is_named (drop at parcel))) [
-        | inl e ↦ ap length (none_brought parcel n at e) ∙ (let z : length (brought_from parcel next n) ≡ 0 + length (brought_from parcel next n) = omega arith in z) ∙ ap (λ (b : Bool). cond b 0 1 + length (brought_from parcel next n)) (sym e)
-        | inr e ↦ ap length (one_brought parcel n at e) ∙ (let z : suc (length (brought_from parcel next n)) ≡ 1 + length (brought_from parcel next n) = omega arith in z) ∙ ap (λ (b : Bool). cond b 0 1 + length (brought_from parcel next n)) (sym e)
-      ]
+module _ (parcel : List ℕ) where
+  count_by : (s : Sent) (at : ℕ) (l : List (List ℕ)) (n : ℕ) → length l ≡ n → length (bytes_then parcel at s l) ≡ one_new s + n
+  count_by (Brought len) at l n e = omega (arith, e)
+  count_by (Named number) at l n e = omega (arith, e)
 
-  pub bytes_open : sum_of (map length (brought_from parcel at (suc n))) ≡ one_bytes parcel at + sum_of (map length (brought_from parcel next n))
-  bytes_open =
-      elim (cases_Bool (is_named (drop at parcel))) [
-        | inl e ↦
-            ap (λ (l : List (List ℕ)). sum_of (map length l)) (none_brought parcel n at e)
-            ∙ (let z : sum_of (map length (brought_from parcel next n)) ≡ 0 + sum_of (map length (brought_from parcel next n)) = omega arith in z)
-            ∙ ap (λ (b : Bool). cond b 0 (buffer_length (drop at parcel)) + sum_of (map length (brought_from parcel next n))) (sym e)
-        | inr e ↦
-            ap (λ (l : List (List ℕ)). sum_of (map length l)) (one_brought parcel n at e)
-            ∙ ap (λ (m : ℕ). m + sum_of (map length (brought_from parcel next n))) (bytes_count e)
-            ∙ ap (λ (b : Bool). cond b 0 (buffer_length (drop at parcel)) + sum_of (map length (brought_from parcel next n))) (sym e)
-      ]
+  count_in : (bs : List DataBuffer) → length (brought_in parcel bs) ≡ new_in bs
+  count_in [] = refl
+  count_in (b ∷ bs) = count_by b.sent b.at (brought_in parcel bs) (new_in bs) (count_in bs)
 
--- what is left of the list gives the whole
-pub record Counted (parcel : List ℕ) (start n k at count bytes : ℕ) : Type 0 where
-  pub place : at ≡ place_of parcel start k
-  pub counts : count + length (brought_from parcel at (n - k)) ≡ length (brought_from parcel start n)
-  pub sums : bytes + sum_of (map length (brought_from parcel at (n - k))) ≡ sum_of (map length (brought_from parcel start n))
-  pub few : count ≤ k
-  pub small : bytes ≤ k * 2147483648
+  long : (at len : ℕ) → at + 4 + len ≤ length parcel → length (slice parcel (at + 4) len) ≡ len
+  long at len h = length-take-le len (drop (at + 4) parcel) (simp length-drop (omega arith))
 
-pub counted_start : (parcel : List ℕ) (start n : ℕ) → Counted parcel start n 0 start 0 0
-unfolding place_of
-counted_start parcel start n =
-    let e : n - 0 ≡ n = omega arith in
-    record {
-      place = refl;
-      counts = (let z : 0 + length (brought_from parcel start (n - 0)) ≡ length (brought_from parcel start (n - 0)) = omega arith in z) ∙ ap (λ (m : ℕ). length (brought_from parcel start m)) e;
-      sums = (let z : 0 + sum_of (map length (brought_from parcel start (n - 0))) ≡ sum_of (map length (brought_from parcel start (n - 0))) = omega arith in z) ∙ ap (λ (m : ℕ). sum_of (map length (brought_from parcel start m))) e;
-      few = omega arith;
-      small = omega arith;
-    }
+  sum_by : (s : Sent) (at : ℕ) (l : List (List ℕ)) (n : ℕ) → SentAt parcel at s → at + data_size parcel at ≤ length parcel → sum_of (map length l) ≡ n → sum_of (map length (bytes_then parcel at s l)) ≡ one_bytes s + n
+  sum_by (Brought len) at l n (e, b, _) h k =
+      let d : data_size parcel at ≡ 4 + buffer_length (drop at parcel) = ap (λ (b : Bool). cond b 4 (4 + buffer_length (drop at parcel))) e in
+      let f : length (slice parcel (at + 4) len) ≡ len = long at len (omega arith) in
+      omega (arith, f, k)
+  sum_by (Named number) at l n e h k = omega (arith, k)
 
-module _ (parcel : List ℕ) (start n k at count bytes : ℕ) (c : Counted parcel start n k at count bytes) (h : k < n) (r : readable parcel start n ≡ true) where
-  pub counted_fits : at + data_size parcel at ≤ length parcel
-  counted_fits = subst (λ (x : ℕ). x + data_size parcel x ≤ length parcel) (sym c.place) (readable_at parcel start n k r h)
+  sum_in : (bs : List DataBuffer) → AllByRecursion (Told parcel) bs → sum_of (map length (brought_in parcel bs)) ≡ size_in bs
+  sum_in [] t = refl
+  sum_in (b ∷ bs) (t, ts) = sum_by b.sent b.at (brought_in parcel bs) (size_in bs) t.0 t.1 (sum_in bs ts)
 
-  pub counted_more : (one size after : ℕ) → one ≡ one_new parcel at → size ≡ one_bytes parcel at → after ≡ at + data_size parcel at → one ≤ 1 → size < 2147483648 → Counted parcel start n (k + 1) after (count + one) (bytes + size)
-  counted_more one size after o s a l m =
-      let e : n - k ≡ suc (n - (k + 1)) = omega arith in
-      let x : length (brought_from parcel at (n - k)) ≡ one_new parcel at + length (brought_from parcel (at + data_size parcel at) (n - (k + 1))) = ap (λ (j : ℕ). length (brought_from parcel at j)) e ∙ count_open parcel (n - (k + 1)) at counted_fits in
-      let y : sum_of (map length (brought_from parcel at (n - k))) ≡ one_bytes parcel at + sum_of (map length (brought_from parcel (at + data_size parcel at) (n - (k + 1)))) =
-      ap (λ (j : ℕ). sum_of (map length (brought_from parcel at j))) e ∙ bytes_open parcel (n - (k + 1)) at counted_fits in
-      let u : length (brought_from parcel after (n - (k + 1))) ≡ length (brought_from parcel (at + data_size parcel at) (n - (k + 1))) = ap (λ (j : ℕ). length (brought_from parcel j (n - (k + 1)))) a in
-      let v : sum_of (map length (brought_from parcel after (n - (k + 1)))) ≡ sum_of (map length (brought_from parcel (at + data_size parcel at) (n - (k + 1)))) = ap (λ (j : ℕ). sum_of (map length (brought_from parcel j (n - (k + 1))))) a in
-      record {
-        place = a ∙ ap (λ (j : ℕ). j + data_size parcel j) c.place ∙ sym (place_more parcel start k);
-        counts = omega (arith, x, u, c.counts);
-        sums = omega (arith, y, v, c.sums);
-        few = omega (arith, c.few);
-        small = omega (arith, c.small);
-      }
+  low_by : (s : Sent) (at : ℕ) → SentAt parcel at s → one_bytes s < 2147483648
+  low_by (Brought len) at e = e.2
+  low_by (Named number) at e = omega arith
 
-pub counted_all : (parcel : List ℕ) (start n k at count bytes : ℕ) → Counted parcel start n k at count bytes → n ≤ k → (count ≡ length (brought_from parcel start n)) × (bytes ≡ sum_of (map length (brought_from parcel start n)))
-unfolding brought_from
-counted_all parcel start n k at count bytes c h =
-    let e : n - k ≡ 0 = omega arith in
-    let x : length (brought_from parcel at (n - k)) ≡ 0 = ap (λ (j : ℕ). length (brought_from parcel at j)) e in
-    let y : sum_of (map length (brought_from parcel at (n - k))) ≡ 0 = ap (λ (j : ℕ). sum_of (map length (brought_from parcel at j))) e in
-    (omega (arith, x, c.counts), omega (arith, y, c.sums))
+  few_by : (s : Sent) → one_new s ≤ 1
+  few_by (Brought len) = omega arith
+  few_by (Named number) = omega arith
+
+  few_in : (bs : List DataBuffer) → new_in bs ≤ length bs
+  few_in [] = omega arith
+  few_in (b ∷ bs) = omega (arith, few_by b.sent, few_in bs)
+
+  low_in : (bs : List DataBuffer) → AllByRecursion (Told parcel) bs → size_in bs ≤ length bs * 2147483648
+  low_in [] t = omega arith
+  low_in (b ∷ bs) (t, ts) = omega (arith, low_by b.sent b.at t.0, low_in bs ts)
+
+  -- of n from a place on
+  pub count_is : (at n : ℕ) → new_in (buffers_from parcel at n) ≡ length (brought_from parcel at n)
+  count_is at n = sym (ap length (brought_is parcel at n) ∙ count_in (buffers_from parcel at n))
+
+  pub count_few : (at n : ℕ) → new_in (buffers_from parcel at n) ≤ n
+  count_few at n = omega (arith, few_in (buffers_from parcel at n), length_buffers parcel at n)
+
+  module _ (at n : ℕ) (r : readable parcel at n ≡ true) where
+    pub sum_is : size_in (buffers_from parcel at n) ≡ sum_of (map length (brought_from parcel at n))
+    sum_is = sym (ap (λ (l : List (List ℕ)). sum_of (map length l)) (brought_is parcel at n) ∙ sum_in (buffers_from parcel at n) (buffers_told parcel at n r))
+
+    pub sum_low : n < 65536 → size_in (buffers_from parcel at n) < 140737488355328
+    sum_low h = omega (arith, low_in (buffers_from parcel at n) (buffers_told parcel at n r), length_buffers parcel at n)
 
 -- entries of the pools, added up
 pub plus_assoc : (a b c : List ℕ) → plus (plus a b) c ≡ plus a (plus b c)

@@ -1,7 +1,6 @@
 -- What drafts need of the pools.
-use Rattle.std.specs.Prelude.{ℕ, ◌+◌, cond, List, [], ◌∷◌, map, length, drop, Some, None, Option}
+use Rattle.std.specs.Prelude.{ℕ, ◌+◌, List, [], ◌∷◌, map, length, Some, None, Option}
 use Rattle.columns.specs.Column.{bytes_for}
-use Rattle.columns.specs.Sent.{is_named, buffer_length}
 use Rattle.columns.specs.Pools.{plus, sum_of}
 use Rattle.pools.specs.declared.records.Part.{Part}
 use Rattle.formats.specs.declared.format.Width.{Width}
@@ -11,6 +10,8 @@ use Rattle.formats.specs.declared.kind.Kind.TheVariants.{Primitive, Boolean, Tex
 use Rattle.formats.specs.declared.kind.Kind.TheVariants.{List as ListOf}
 use Rattle.parcels.specs.declared.draft.Draft.{Draft}
 use Rattle.parcels.specs.Lent.{brought_from}
+use Rattle.soundness.specs.declared.sent.Sent.{Sent}
+use Rattle.soundness.specs.declared.sent.Sent.TheVariants.{Brought, Named}
 use Rattle.admission.specs.declared.entries.Entries.{Entries}
 
 -- pools 1 to 11
@@ -18,12 +19,14 @@ abbrev pub listed : Entries → List ℕ
 listed x =
     x.columns ∷ x.nodes ∷ x.bytes ∷ x.twos ∷ x.fours ∷ x.eights ∷ x.offsets ∷ x.views ∷ x.lists ∷ x.buffers ∷ x.slip ∷ []
 
--- the data buffer at a place is brought, and its bytes if it is
-abbrev pub one_new : List ℕ → (at : ℕ) → ℕ
-one_new parcel at = cond (is_named (drop at parcel)) 0 1
+-- how many data buffers a data buffer brings, as 1 or 0, and its bytes if it is brought
+abbrev pub one_new : Sent → ℕ
+one_new (Brought len) = 1
+one_new (Named number) = 0
 
-abbrev pub one_bytes : List ℕ → (at : ℕ) → ℕ
-one_bytes parcel at = cond (is_named (drop at parcel)) 0 (buffer_length (drop at parcel))
+abbrev pub one_bytes : Sent → ℕ
+one_bytes (Brought len) = len
+one_bytes (Named number) = 0
 
 -- the data buffers that are brought, and their bytes
 abbrev pub new_count : List ℕ → Part → ℕ

@@ -1,48 +1,45 @@
 // What a parcel needs of the pools.
-ghost use Rattle.std.specs.Prelude.{◌≡◌, ℕ, ◌+◌, ◌-◌, ◌*◌, ◌^◌, ◌<◌, ◌≤◌, true, List, length};
+ghost use Rattle.std.specs.Prelude.{◌≡◌, ℕ, ◌+◌, ◌-◌, ◌*◌, ◌^◌, ◌<◌, ◌≤◌, List, map, length};
 ghost use Rattle.std.specs.List.{AllByRecursion};
-ghost use Rattle.columns.specs.Pools.{plus, one_column};
-ghost use Rattle.parcels.specs.Lent.{data_size, readable};
+ghost use Rattle.columns.specs.Pools.{plus, one_column, sum_of};
+ghost use Rattle.parcels.specs.Lent.{brought_from};
 ghost use Rattle.parcels.specs.Drafts.{Drafted};
-ghost use Rattle.admission.specs.Needs.{listed, one_new, one_bytes, new_count, new_bytes, mask_need, width_entries, kind_entries, draft_entries, drafts_need};
+ghost use Rattle.admission.specs.Needs.{listed, mask_need, width_entries, kind_entries, draft_entries, drafts_need};
 
 use crate::entries::Entries;
 use formats::format::Width;
 use formats::kind::Kind;
 use parcels::draft::Draft;
 use pools::records::Part;
-use soundness::lents::{after, sent_at};
+use soundness::data_buffers::DataBuffers;
 use soundness::sent::Sent;
 use soundness::values::bit_bytes;
 
-// Whether a data buffer is brought, as 1 or 0, and its bytes.
-fn brought_at(parcel: &[u8], at: usize) -> (usize, usize)
-    requires { at + data_size parcel.now at ≤ length parcel.now }
-    ensures is { (result.0 ≡ one_new parcel.now at) × (result.1 ≡ one_bytes parcel.now at) }
-    ensures low { (result.0 ≤ 1) × (result.1 < 2147483648) }
-{
-    match sent_at(parcel, at) {
-        Sent::Brought(len) => (1, len),
-        Sent::Named(_) => (0, 0),
-    }
+// The data buffers that a node brings: how many, and how many bytes they have.
+#[derive(Clone, Copy)]
+struct NewBuffers {
+    count: usize,
+    bytes: usize,
 }
 
-// How many data buffers a node brings, and how many bytes they have.
-fn brought(parcel: &[u8], lent: Part) -> (usize, usize)
-    requires { (readable parcel.now lent.start lent.len ≡ true) × (lent.len < 65536) }
-    ensures is { (result.0 ≡ new_count parcel.now lent) × (result.1 ≡ new_bytes parcel.now lent) }
-    ensures low { (result.0 < 65536) × (result.1 < 140737488355328) }
+fn brought(lent: DataBuffers<'_>) -> NewBuffers
+    requires { lent.left < 65536 }
+    ensures count { result.count ≡ length (brought_from lent.entry.parcel.now lent.entry.at lent.entry.left) }
+    ensures bytes { result.bytes ≡ sum_of (map length (brought_from lent.entry.parcel.now lent.entry.at lent.entry.left)) }
+    ensures few { result.count < 65536 }
+    ensures low { result.bytes < 140737488355328 }
 {
-    let mut at = lent.start;
-    let mut count = 0;
-    let mut bytes = 0;
-    for _k in 0..lent.len {
-        let (one, size) = brought_at(parcel, at);
-        count += one;
-        bytes += size;
-        at = after(parcel, at);
+    let mut total = NewBuffers { count: 0, bytes: 0 };
+    for buffer in lent {
+        match buffer.sent {
+            Sent::Brought(len) => {
+                total.count += 1;
+                total.bytes += len;
+            }
+            Sent::Named(_) => {}
+        }
     }
-    (count, bytes)
+    total
 }
 
 // What values of a width need, with `base` bytes and `new` data buffers.
@@ -123,9 +120,16 @@ fn draft_needs(parcel: &[u8], d: Draft) -> Entries
     ensures low { AllByRecursion (λ v. v ≤ 281474976710656) (listed result) }
 {
     let rows = d.head.rows as usize;
-    let (new, bytes) = brought(parcel, d.parts.lent);
-    let base = mask_bytes(d.parts.mask, rows) + d.head.format.len + bytes;
-    kind_needs(d.kind, base, rows, d.parts.text.len, d.parts.lent.len, new)
+    let new = brought(DataBuffers::of(parcel, d.parts.lent));
+    let base = mask_bytes(d.parts.mask, rows) + d.head.format.len + new.bytes;
+    kind_needs(
+        d.kind,
+        base,
+        rows,
+        d.parts.text.len,
+        d.parts.lent.len,
+        new.count,
+    )
 }
 
 fn add(a: Entries, b: Entries) -> Entries
@@ -156,8 +160,8 @@ pub(crate) fn needs(parcel: &[u8], drafts: &[Draft]) -> Entries
         columns: 1,
         ..Entries::NONE
     };
-    for i in 0..drafts.len() {
-        total = add(total, draft_needs(parcel, drafts[i]));
+    for draft in drafts {
+        total = add(total, draft_needs(parcel, *draft));
     }
     total
 }

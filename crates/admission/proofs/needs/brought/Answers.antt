@@ -1,27 +1,25 @@
-use Rattle.std.proofs.Common.{◌≤◌, arith}
-use Rattle.admission.proofs.Counting.{counted_start, counted_fits, counted_more, counted_all}
+use Rattle.std.proofs.Common.{ap, ◌∙◌, arith}
+use Rattle.admission.specs.Needs.{one_bytes}
+use Rattle.admission.proofs.Counting.{new_in, size_in, count_is, count_few, sum_is, sum_low}
 use Rattle.admission.proofs.needs.brought.Goals as goal
 
-pub loop-k-init : goal.loop-k-init
-loop-k-init c = counted_start c.args.parcel.now c.args.lent.start c.args.lent.len
+pub overflow_add-total : goal.overflow_add-total
+overflow_add-total c = let l = c.args.lent in omega (arith, count_few l.parcel.now l.at l.left)
 
-pub brought_at-one-requires : goal.brought_at-one-requires
-brought_at-one-requires c = counted_fits c.args.parcel.now c.args.lent.start c.args.lent.len c.loop-k._k c.loop-k.at c.loop-k.count c.loop-k.bytes c.loop-k.invariant c.loop-k-test.true c.requires.0
-
-pub after-at-requires : goal.after-at-requires
-after-at-requires c = counted_fits c.args.parcel.now c.args.lent.start c.args.lent.len c.loop-k._k c.loop-k.at c.loop-k.count c.loop-k.bytes c.loop-k.invariant c.loop-k-test.true c.requires.0
-
-pub loop-k-preserved : goal.loop-k-preserved
-loop-k-preserved c =
-    let e = c.brought_at-one.ensures in
-    counted_more c.args.parcel.now c.args.lent.start c.args.lent.len c.loop-k._k c.loop-k.at c.loop-k.count c.loop-k.bytes c.loop-k.invariant c.loop-k-test.true c.requires.0
-    c.brought_at-one.result.0 c.brought_at-one.result.1 c.after-at.result e.is.0 e.is.1 c.after-at.ensures e.low.0 e.low.1
+pub overflow_add-total-in-Brought : goal.overflow_add-total-in-Brought
+overflow_add-total-in-Brought c =
+    let l = c.args.lent in
+    omega (arith, sum_low l.parcel.now l.at l.left l.listed c.requires, ap size_in c.in-Some.ensures.steps, ap one_bytes c.in-Brought.is)
 
 pub returns : goal.returns
 returns c =
-    let i = c.loop-k.invariant in
-    let k : c.loop-k._k ≤ 65535 = omega arith in
+    let l = c.args.lent in
+    let e = c.in-None.ensures.steps.0 in
+    let f = count_few l.parcel.now l.at l.left in
+    let s = sum_low l.parcel.now l.at l.left l.listed c.requires in
     record {
-      is = counted_all c.args.parcel.now c.args.lent.start c.args.lent.len c.loop-k._k c.loop-k.at c.loop-k.count c.loop-k.bytes i c.loop-k-test.false;
-      low = (omega (arith, i.few), omega (arith, i.small));
+      count = omega (arith, ap new_in e) ∙ count_is l.parcel.now l.at l.left;
+      bytes = omega (arith, ap size_in e) ∙ sum_is l.parcel.now l.at l.left l.listed;
+      few = omega (arith, f, ap new_in e);
+      low = omega (arith, s, ap size_in e);
     }

@@ -10,25 +10,25 @@ use Rattle.admission.proofs.Counting.{plus_most, all_below, add_more, add_all}
 use Rattle.admission.proofs.needs.needs.Goals as goal
 
 pub draft_needs-requires : goal.draft_needs-requires
-draft_needs-requires c = All-get_or (Drafted c.args.parcel.now) c.args.drafts.now c.loop-i.i blank c.loop-i-test.true c.requires.0
+draft_needs-requires c = All-get_or (Drafted c.args.parcel.now) c.args.drafts.now c.loop-draft.draft-index blank c.loop-draft-test.true c.requires.0
 
 pub add-total-requires : goal.add-total-requires
 add-total-requires c = (
-  all_below (c.loop-i.i * 281474976710656 + 1) 4611686018427387904 (listed c.loop-i.total) (omega arith) c.loop-i.invariant.1,
+  all_below (c.loop-draft.draft-index * 281474976710656 + 1) 4611686018427387904 (listed c.loop-draft.total) (omega arith) c.loop-draft.invariant.1,
   all_below 281474976710656 4611686018427387904 (listed c.draft_needs.result) (omega arith) c.draft_needs.ensures.low,
 )
 
-pub loop-i-preserved : goal.loop-i-preserved
-loop-i-preserved c =
+pub loop-draft-preserved : goal.loop-draft-preserved
+loop-draft-preserved c =
     let D = c.args.drafts.now in
-    let i = c.loop-i.i in
-    let t = c.loop-i.total in
+    let i = c.loop-draft.draft-index in
+    let t = c.loop-draft.total in
     let o = c.draft_needs.result in (
-      sym (add_more c.args.parcel.now D i t o c.add-total.result (get_or D i blank) (drop_more D i blank c.loop-i-test.true) c.draft_needs.ensures.is c.add-total.ensures) ∙ c.loop-i.invariant.0,
+      sym (add_more c.args.parcel.now D i t o c.add-total.result (get_or D i blank) (drop_more D i blank c.loop-draft-test.true) c.draft_needs.ensures.is c.add-total.ensures) ∙ c.loop-draft.invariant.0,
       subst (AllByRecursion (λ (v : ℕ). v ≤ (i + 1) * 281474976710656 + 1)) (sym c.add-total.ensures)
           (all_below (i * 281474976710656 + 1 + 281474976710656) ((i + 1) * 281474976710656 + 1) (plus (listed t) (listed o)) (omega arith)
-          (plus_most (i * 281474976710656 + 1) 281474976710656 t o c.loop-i.invariant.1 c.draft_needs.ensures.low)),
+          (plus_most (i * 281474976710656 + 1) 281474976710656 t o c.loop-draft.invariant.1 c.draft_needs.ensures.low)),
     )
 
 pub returns : goal.returns
-returns c = add_all c.args.parcel.now c.args.drafts.now c.loop-i.i c.loop-i.total c.loop-i-test.false ∙ c.loop-i.invariant.0
+returns c = add_all c.args.parcel.now c.args.drafts.now c.loop-draft.draft-index c.loop-draft.total c.loop-draft-test.false ∙ c.loop-draft.invariant.0
