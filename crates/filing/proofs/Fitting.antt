@@ -1,5 +1,5 @@
 -- What is added to a pool has room in it.
-use Rattle.std.proofs.Common.{◌≡◌, ℕ, ◌+◌, ◌*◌, ◌≤◌, true, List, ◌++◌, map, length, Some, None, Option, sym, refl, ap, ◌∙◌, subst, ap₂, le_refl, arith, length-append}
+use Rattle.std.proofs.Common.{◌≡◌, ℕ, ◌+◌, ◌*◌, ◌≤◌, true, List, ◌++◌, map, length, Some, None, Option, sym, refl, ap, ◌∙◌, subst, ap₂, arith, rules, length-append}
 use lib.ListN.{length-map}
 use Rattle.formats.specs.declared.format.Width.TheVariants.{One, Two, Four, Eight}
 use Rattle.formats.specs.declared.kind.Kind.{Kind}
@@ -8,6 +8,7 @@ use Rattle.formats.specs.declared.kind.Kind.TheVariants.{List as ListOf}
 use Rattle.formats.specs.Spelled.{wide_bytes}
 use Rattle.columns.specs.Says.{span}
 use Rattle.columns.proofs.Gather.{length_span}
+use Rattle.columns.proofs.Rows.{length_of_slice}
 use Rattle.columns.specs.Sent.{number_of}
 use Rattle.pools.specs.declared.records.Part.{Part}
 use Rattle.pools.specs.declared.pool.Pool.{Pool}
@@ -26,7 +27,7 @@ use Rattle.columns.specs.Contents.{value_at}
 use Rattle.pools.specs.declared.pools.Pools.{Pools}
 use Rattle.pools.specs.declared.pools.Marks.{Marks}
 use Rattle.pools.specs.declared.records.Node.{Node as Entry}
-use Rattle.filing.proofs.Numbers.{slice_fits, halves_at}
+use Rattle.filing.proofs.Numbers.{halves_at}
 use Rattle.filing.proofs.Lents.{data_count, parts_length}
 
 pub fit_less : {X : Type 0} {p : Pool X} (n m : ℕ) → m ≤ n → Fit p n → Fit p m
@@ -37,7 +38,7 @@ fit_next {X} {p} q {new} a b e f g =
     let m = g.mark in let l = g.len in let h = f.lent in let k = f.capped in record { lent = omega arith; capped = omega arith }
 
 pub part_length : (parcel : List ℕ) (p : Part) → Within parcel p → length (within parcel p) ≡ p.len
-part_length parcel p h = slice_fits parcel p.start p.len h
+part_length parcel p h = length_of_slice parcel p.start p.len h
 
 pub mask_length : (parcel : List ℕ) (m : Option Part) → MaskWithin parcel m → length (mask_sent parcel m) ≡ mask_len m
 mask_length parcel None h = refl
@@ -72,42 +73,18 @@ pub record PlanFits (parcel : List ℕ) (x : Parts) (size : ℕ) (p : Plan) : Ty
   pub new : length (brought_from parcel p.list.start p.list.len) ≤ length (brought_from parcel x.lent.start x.lent.len)
 
 plan_fits : (parcel : List ℕ) (k : Kind) (x : Parts) (n : ℕ) → Inside parcel x → readable parcel x.lent.start x.lent.len ≡ true → x.body.len ≡ body_bytes k n → PlanFits parcel x x.body.len (plan_of k x n)
-plan_fits parcel (Primitive One) x n i r h =
-    let b : Part = x.body in
-    record { plain = i.body; shorts = omega arith; words = omega arith; longs = omega arith; offsets = omega arith; views = omega arith; list = none_readable parcel 0; new = none_brought parcel 0 (length (brought_from parcel x.lent.start x.lent.len)) }
-plan_fits parcel (Primitive Two) x n i r h =
-    let b : Part = x.body in
-    record { plain = omega arith; shorts = (let e : b.len ≡ 2 * n = h in omega arith); words = omega arith; longs = omega arith; offsets = omega arith; views = omega arith; list = none_readable parcel 0; new = none_brought parcel 0 (length (brought_from parcel x.lent.start x.lent.len)) }
-plan_fits parcel (Primitive Four) x n i r h =
-    let b : Part = x.body in
-    record { plain = omega arith; shorts = omega arith; words = (let e : b.len ≡ 4 * n = h in omega arith); longs = omega arith; offsets = omega arith; views = omega arith; list = none_readable parcel 0; new = none_brought parcel 0 (length (brought_from parcel x.lent.start x.lent.len)) }
-plan_fits parcel (Primitive Eight) x n i r h =
-    let b : Part = x.body in
-    record { plain = omega arith; shorts = omega arith; words = omega arith; longs = (let e : b.len ≡ 8 * n = h in omega arith); offsets = omega arith; views = omega arith; list = none_readable parcel 0; new = none_brought parcel 0 (length (brought_from parcel x.lent.start x.lent.len)) }
-plan_fits parcel Boolean x n i r h =
-    let b : Part = x.body in
-    record { plain = i.body; shorts = omega arith; words = omega arith; longs = omega arith; offsets = omega arith; views = omega arith; list = none_readable parcel 0; new = none_brought parcel 0 (length (brought_from parcel x.lent.start x.lent.len)) }
-plan_fits parcel (Text wide) x n i r h =
-    let b : Part = x.body in
-    record { plain = i.text; shorts = omega arith; words = omega arith; longs = omega arith; offsets = eq_le (sym h); views = omega arith; list = none_readable parcel 0; new = none_brought parcel 0 (length (brought_from parcel x.lent.start x.lent.len)) }
-plan_fits parcel View x n i r h =
-    let b : Part = x.body in
-    record { plain = omega arith; shorts = omega arith; words = omega arith; longs = omega arith; offsets = omega arith; views = (let e : b.len ≡ 16 * n = h in omega arith); list = r; new = le_refl _ }
-plan_fits parcel (ListOf wide) x n i r h =
-    let b : Part = x.body in
-    record { plain = omega arith; shorts = omega arith; words = omega arith; longs = omega arith; offsets = eq_le (sym h); views = omega arith; list = none_readable parcel 0; new = none_brought parcel 0 (length (brought_from parcel x.lent.start x.lent.len)) }
-plan_fits parcel Map x n i r h =
-    let b : Part = x.body in
-    record { plain = omega arith; shorts = omega arith; words = omega arith; longs = omega arith; offsets = eq_le (sym h); views = omega arith; list = none_readable parcel 0; new = none_brought parcel 0 (length (brought_from parcel x.lent.start x.lent.len)) }
-plan_fits parcel Struct x n i r h =
-    let b : Part = x.body in
-    record { plain = omega arith; shorts = omega arith; words = omega arith; longs = omega arith; offsets = omega arith; views = omega arith; list = none_readable parcel 0; new = none_brought parcel 0 (length (brought_from parcel x.lent.start x.lent.len)) }
-plan_fits parcel RunEnds x n i r h =
-    let b : Part = x.body in
-    record { plain = omega arith; shorts = omega arith; words = omega arith; longs = omega arith; offsets = omega arith; views = omega arith; list = none_readable parcel 0; new = none_brought parcel 0 (length (brought_from parcel x.lent.start x.lent.len)) }
-plan_fits parcel (FixedList size) x n i r h =
-    let b : Part = x.body in
-    record { plain = omega arith; shorts = omega arith; words = omega arith; longs = omega arith; offsets = omega arith; views = omega arith; list = none_readable parcel 0; new = none_brought parcel 0 (length (brought_from parcel x.lent.start x.lent.len)) }
+plan_fits parcel (Primitive One) x n i r h = search (rules, none_readable, none_brought)
+plan_fits parcel (Primitive Two) x n i r h = search (rules, none_readable, none_brought)
+plan_fits parcel (Primitive Four) x n i r h = search (rules, none_readable, none_brought)
+plan_fits parcel (Primitive Eight) x n i r h = search (rules, none_readable, none_brought)
+plan_fits parcel Boolean x n i r h = search (rules, none_readable, none_brought)
+plan_fits parcel (Text wide) x n i r h = search (rules, none_readable, none_brought)
+plan_fits parcel View x n i r h = search (rules, none_readable, none_brought)
+plan_fits parcel (ListOf wide) x n i r h = search (rules, none_readable, none_brought)
+plan_fits parcel Map x n i r h = search (rules, none_readable, none_brought)
+plan_fits parcel Struct x n i r h = search (rules, none_readable, none_brought)
+plan_fits parcel RunEnds x n i r h = search (rules, none_readable, none_brought)
+plan_fits parcel (FixedList size) x n i r h = search (rules, none_readable, none_brought)
 
 pub plan_within : (parcel : List ℕ) (d : Draft) (p : Plan) → p ≡ plan_in d → Drafted parcel d → d.parts.body.len ≡ body_bytes d.kind d.head.rows
     → (body : List ℕ) → body ≡ within parcel d.parts.body → PlanFits parcel d.parts (length body) p

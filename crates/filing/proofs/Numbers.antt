@@ -1,5 +1,5 @@
 -- Entries that lie in a part of a parcel.
-use Rattle.std.proofs.Common.{◌≡◌, ℕ, zero, suc, ◌+◌, ◌*◌, ◌≤◌, min, List, [], ◌∷◌, ◌++◌, map, length, drop, sym, refl, ap, ◌∙◌, subst, ap₂, add-zero, zero-add, arith, length-drop, length-take}
+use Rattle.std.proofs.Common.{◌≡◌, ℕ, zero, suc, ◌+◌, ◌*◌, ◌≤◌, List, [], ◌∷◌, ◌++◌, map, length, drop, sym, refl, ap, ◌∙◌, subst, ap₂, add-zero, zero-add, arith}
 use Rattle.std.specs.List.{AllZip, each_same}
 use Rattle.std.proofs.lemmas.List.{map-append, take-take, drop-take}
 use Rattle.columns.specs.Says.{span, slice}
@@ -10,6 +10,7 @@ use Rattle.columns.specs.Bytes.{view_of_halves}
 use Rattle.columns.specs.Widths.{Bytes}
 use Rattle.columns.proofs.Bytes.{views_read_back}
 use Rattle.columns.proofs.Reading.{bytes_slice}
+use Rattle.columns.proofs.Rows.{length_of_slice}
 use Rattle.pools.specs.declared.records.View.{View as Halves}
 use Rattle.pools.specs.Laid.{halves_in, entries_in}
 use Rattle.pools.specs.Held.{view_from}
@@ -46,10 +47,6 @@ made_more R f i new x y e r a p q = (
 pub made_same : {X : Type 0} {m m1 : ℕ} {ys ys1 : List X} (xs : List X) → (new : List X) × AllZip (λ x y. y ≡ x) xs new × Grown m ys new m1 ys1 → Grown m ys xs m1 ys1
 made_same {X} {m} {m1} {ys} {ys1} xs h = subst (λ (new : List X). Grown m ys new m1 ys1) (each_same xs h.0 h.1) h.2
 
--- a part is as long as it says
-pub slice_fits : {X : Type 0} (xs : List X) (a n : ℕ) → a + n ≤ length xs → length (slice xs a n) ≡ n
-slice_fits xs a n h = length-take n (drop a xs) ∙ (let e = length-drop a xs in let z : min n (length (drop a xs)) ≡ n = omega arith in z)
-
 -- a view by its halves
 abbrev pub halves_at : List ℕ → ℕ → Halves
 halves_at bytes i = halves_in (drop (16 * i) bytes)
@@ -58,7 +55,7 @@ view_told : (bytes : List ℕ) (i : ℕ) → 16 * i + 16 ≤ length bytes → By
 view_told bytes i h b =
     let xs : List ℕ = drop (16 * i) bytes in
     sym
-    (views_read_back.read (slice bytes (16 * i) 16) (slice_fits bytes (16 * i) 16 h) (bytes_slice bytes (16 * i) 16 b)
+    (views_read_back.read (slice bytes (16 * i) 16) (length_of_slice bytes (16 * i) 16 h) (bytes_slice bytes (16 * i) 16 b)
     ∙ ap₂ (λ (x y : List ℕ). view_of_halves (little_endian x) (little_endian y)) (take-take 8 16 xs (omega arith)) (drop-take 8 8 xs))
 
 pub views_told : (bytes : List ℕ) (n : ℕ) → 16 * n ≤ length bytes → Bytes bytes → map view_from (entries_in halves_in 16 n bytes) ≡ views_in n bytes

@@ -1,10 +1,13 @@
-use Rattle.std.proofs.Common.{◌≡◌, ℕ, zero, suc, ◌+◌, ◌-◌, ◌*◌, ◌^◌, ◌<◌, ◌≤◌, Bool, true, false, not, ◌&&◌, ◌||◌, eqb, ltb, leb, List, length, get_or, drop, sym, ap, ◌∙◌, inl, inr, arith}
+use Rattle.std.proofs.Common.{◌≡◌, ℕ, zero, suc, ◌+◌, ◌-◌, ◌<◌, ◌≤◌, Bool, true, false, not, ◌&&◌, ◌||◌, eqb, ltb, leb, cond, List, [], ◌∷◌, length, get_or, drop, Some, None, Option, refl, sym, ap, ◌∙◌, inl, inr, arith}
 use Rattle.std.proofs.lemmas.List.{at_drop_more, at_drop_all, get_or-map, length-map}
 use Rattle.std.proofs.lemmas.Bool.{le-leb, lt-leb, lt-ltb, le-ltb, cases_lt}
 use Rattle.columns.specs.Says.{span}
-use Rattle.columns.specs.SoundTests.{never_fall, last_of, offsets_sound, climbs}
+use Rattle.columns.specs.SoundTests.{never_fall, last_of, climbs}
 use Rattle.columns.specs.Contents.{values_in, value_at, bit_at, bits_in}
 use Rattle.columns.specs.Masks.{some_null}
+use Rattle.std.specs.Option.{MatchOption, option_eq}
+use Rattle.std.proofs.lemmas.Bool.{cases_Bool}
+use Rattle.soundness.specs.Walks.{walked}
 use Rattle.parcels.proofs.Along.{length_span}
 
 pub get_or_span : (a n i : ℕ) → i < n → get_or (span a n) i 0 ≡ a + i
@@ -19,59 +22,33 @@ pub get_or_values : (w n i : ℕ) (bytes : List ℕ) → i < n → get_or (value
 get_or_values w n i bytes h =
     get_or-map (value_at w bytes) (span 0 n) i 0 0 (rw length_span h) ∙ ap (value_at w bytes) (get_or_span 0 n i h ∙ omega arith)
 
--- what is left of the offsets gives the whole
-abbrev pub Rising : List ℕ → ℕ → ℕ → Type 0
-Rising os i low = (never_fall 0 os ≡ never_fall low (drop i os)) × (last_of 0 os ≡ last_of low (drop i os))
+-- offsets that are walked
+abbrev pub and_some : Option ℕ → (ℕ → Bool) → Bool
+and_some None t = false
+and_some (Some x) t = t x
 
-module _ (w n : ℕ) (bytes : List ℕ) (i low next : ℕ) (h : i < n) (e : next ≡ value_at w bytes i) (r : Rising (values_in w n bytes) i low) where
-  abbrev os : List ℕ
-  os = values_in w n bytes
+pub some_by : (o : Option ℕ) (r : Bool) (t : ℕ → Bool) (P : ℕ → Type 0) → MatchOption o (r ≡ false) P → ((x : ℕ) → P x → r ≡ t x) → r ≡ and_some o t
+some_by None r t P m f = m
+some_by (Some x) r t P m f = f x m
 
-  at_i : get_or os i 0 ≡ next
-  at_i = get_or_values w n i bytes h ∙ sym e
+module _ (t u : ℕ → Bool) where
+  pub walk_rises : (low : ℕ) (os : List ℕ) → and_some (walked leb low os) (λ x. t x && u x) ≡ (never_fall low os && t (last_of low os) && u (last_of low os))
+  walk_rises low [] = refl
+  walk_rises low (o ∷ os) =
+      let F : Bool → Bool = λ b. and_some (cond b (walked leb o os) None) (λ x. t x && u x) in
+      let G : Bool → Bool = λ b. (b && never_fall o os) && t (last_of o os) && u (last_of o os) in
+      elim (cases_Bool (leb low o)) [
+        | inl e ↦ ap F e ∙ walk_rises o os ∙ ap G (sym e)
+        | inr e ↦ ap F e ∙ ap G (sym e)
+      ]
 
-  in_i : i < length os
-  in_i = rw (length_values w n bytes) h
-
-  opens : never_fall 0 os ≡ (leb low next && never_fall next (drop (i + 1) os))
-  opens = r.0 ∙ at_drop_more (never_fall low) os i 0 in_i ∙ ap (λ (o : ℕ). leb low o && never_fall o (drop (i + 1) os)) at_i
-
-  pub rising_more : low ≤ next → Rising os (i + 1) next
-  rising_more l = (
-    opens ∙ ap (λ (b : Bool). b && never_fall next (drop (i + 1) os)) (le-leb low next l),
-    r.1 ∙ at_drop_more (last_of low) os i 0 in_i ∙ ap (λ (o : ℕ). last_of o (drop (i + 1) os)) at_i,
-  )
-
-  pub falls : (bound : ℕ) → next < low → false ≡ offsets_sound w os bound
-  falls bound l =
-      sym (ap (λ (b : Bool). b && leb (last_of 0 os) bound && ltb (last_of 0 os) (2 ^ (8 * w - 1))) (opens ∙ ap (λ (b : Bool). b && never_fall next (drop (i + 1) os)) (lt-leb low next l)))
-
-pub rising_all : (w n : ℕ) (bytes : List ℕ) (i low bound : ℕ) → n ≤ i → Rising (values_in w n bytes) i low
-    → offsets_sound w (values_in w n bytes) bound ≡ (leb low bound && ltb low (2 ^ (8 * w - 1)))
-rising_all w n bytes i low bound h r =
-    let os : List ℕ = values_in w n bytes in
-    let l : length os ≤ i = rw (length_values w n bytes) h in
-    ap (λ (b : Bool). b && leb (last_of 0 os) bound && ltb (last_of 0 os) (2 ^ (8 * w - 1))) (r.0 ∙ at_drop_all (never_fall low) os i l)
-    ∙ ap (λ (x : ℕ). leb x bound && ltb x (2 ^ (8 * w - 1))) (r.1 ∙ at_drop_all (last_of low) os i l)
-
--- what is left of the run ends gives the whole
-module _ (w n : ℕ) (bytes : List ℕ) (i low next top : ℕ) (h : i < n) (e : next ≡ value_at w bytes i) (r : climbs 0 (values_in w n bytes) top ≡ climbs low (drop i (values_in w n bytes)) top) where
-  abbrev ends : List ℕ
-  ends = values_in w n bytes
-
-  climb_opens : climbs 0 ends top ≡ (ltb low next && climbs next (drop (i + 1) ends) top)
-  climb_opens =
-      r ∙ at_drop_more (λ (l : List ℕ). climbs low l top) ends i 0 (rw (length_values w n bytes) h)
-      ∙ ap (λ (o : ℕ). ltb low o && climbs o (drop (i + 1) ends) top) (get_or_values w n i bytes h ∙ sym e)
-
-  pub climb_more : low < next → climbs 0 ends top ≡ climbs next (drop (i + 1) ends) top
-  climb_more l = climb_opens ∙ ap (λ (b : Bool). b && climbs next (drop (i + 1) ends) top) (lt-ltb low next l)
-
-  pub climb_stops : (b : Bool) → next ≤ low → false ≡ (climbs 0 ends top && b)
-  climb_stops b l = sym (ap (λ (x : Bool). x && b) (climb_opens ∙ ap (λ (x : Bool). x && climbs next (drop (i + 1) ends) top) (le-ltb low next l)))
-
-pub climb_all : (w n : ℕ) (bytes : List ℕ) (i low top : ℕ) → n ≤ i → climbs 0 (values_in w n bytes) top ≡ climbs low (drop i (values_in w n bytes)) top → climbs 0 (values_in w n bytes) top ≡ eqb low top
-climb_all w n bytes i low top h r = r ∙ at_drop_all (λ (l : List ℕ). climbs low l top) (values_in w n bytes) i (rw (length_values w n bytes) h)
+-- run ends that are walked
+pub walk_climbs : (low top : ℕ) (es : List ℕ) → option_eq eqb (walked ltb low es) (Some top) ≡ climbs low es top
+walk_climbs low top [] = refl
+walk_climbs low top (x ∷ es) =
+    let F : Bool → Bool = λ b. option_eq eqb (cond b (walked ltb x es) None) (Some top) in
+    let G : Bool → Bool = λ b. b && climbs x es top in
+    elim (cases_Bool (ltb low x)) [ inl e ↦ ap F e ∙ walk_climbs x top es ∙ ap G (sym e) | inr e ↦ ap F e ∙ ap G (sym e) ]
 
 -- below the half is at most the highest
 pub below_half : (top half : ℕ) → 0 < half → ltb top half ≡ leb top (half - 1)

@@ -1,4 +1,5 @@
 pub mod Buffers
+pub mod Chunks
 pub mod Falls
 pub mod Fills
 pub mod Finding

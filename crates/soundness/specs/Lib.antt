@@ -2,3 +2,4 @@ pub mod Buffers
 pub mod Sizes
 pub mod Sources
 pub mod Ladder
+pub mod Walks

@@ -6,7 +6,7 @@ ghost use Rattle.parcels.specs.Reads.{mask_of, MaskWithin, sent_of};
 ghost use Rattle.parcels.specs.Drafts.{Drafted, kind_in, head_in};
 ghost use Rattle.soundness.specs.Sizes.{body_by, MaskFilled, Filled};
 
-use crate::values::{bit_bytes, bytes, offset_width};
+use crate::values::{bit_bytes, offset_width};
 use formats::kind::Kind;
 use parcels::draft::Draft;
 use pools::records::Part;
@@ -17,9 +17,9 @@ fn body_size(kind: Kind, rows: usize) -> usize
     ensures { result ≡ body_by (layout kind) (offset_width kind) rows }
 {
     match kind {
-        Kind::Primitive(width) => bytes(width) * rows,
+        Kind::Primitive(width) => width.bytes() * rows,
         Kind::Boolean => bit_bytes(rows),
-        Kind::Text { wide } | Kind::List { wide } => bytes(offset_width(wide)) * (rows + 1),
+        Kind::Text { wide } | Kind::List { wide } => offset_width(wide).bytes() * (rows + 1),
         Kind::View => 16 * rows,
         Kind::Map => 4 * (rows + 1),
         Kind::Struct | Kind::RunEnds | Kind::FixedList(_) => 0,

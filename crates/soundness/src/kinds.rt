@@ -25,23 +25,19 @@ fn offsets_within(parcel: &[u8], d: Draft, width: Width, bound: u64) -> bool
     requires { (Drafted parcel.now d) × (d.parts.body.len ≡ bytes_of width * (d.head.rows + 1)) }
     ensures { result ≡ offsets_sound (bytes_of width) (values_in (bytes_of width) (d.head.rows + 1) (within parcel.now d.parts.body)) bound }
 {
-    let start = d.parts.body.start;
-    let end = d.parts.body.start + d.parts.body.len;
-    sound_offsets(&parcel[start..end], width, d.head.rows as usize, bound)
+    sound_offsets(d.parts.body.of(parcel), width, bound)
 }
 
 fn views_within(parcel: &[u8], bytes: &[u8], buffers: &[Part], d: Draft) -> bool
     requires { (Drafted parcel.now d) × ((d.parts.body.len ≡ 16 * d.head.rows) × (AllByRecursion (Within bytes.now) buffers.now)) }
     ensures { result ≡ all_of (view_fine (sources parcel.now bytes.now buffers.now d.parts.lent) d.parts.lent.len) (views_in d.head.rows (within parcel.now d.parts.body)) }
 {
-    let start = d.parts.body.start;
-    let end = d.parts.body.start + d.parts.body.len;
     sound_views(
         parcel,
         bytes,
         buffers,
         d.parts.lent,
-        &parcel[start..end],
+        d.parts.body.of(parcel),
         d.head.rows as usize,
     )
 }

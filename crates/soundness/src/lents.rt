@@ -79,19 +79,11 @@ pub(crate) fn source<'a>(parcel: &'a [u8], bytes: &'a [u8], buffers: &[Part], at
     requires { (at + data_size parcel.now at ≤ length parcel.now) × (AllByRecursion (Within bytes.now) buffers.now) }
     ensures { result.now ≡ source_at parcel.now bytes.now buffers.now at }
 {
-    let number = match sent_at(parcel, at) {
-        Sent::Brought(len) => {
-            let start = at + 4;
-            let end = start + len;
-            return &parcel[start..end];
-        }
-        Sent::Named(number) => number,
-    };
-    if number >= buffers.len() {
-        return &parcel[at..at];
+    match sent_at(parcel, at) {
+        Sent::Brought(len) => Part { start: at + 4, len }.of(parcel),
+        Sent::Named(number) => match buffers.get(number) {
+            Some(part) => part.of(bytes),
+            None => &[],
+        },
     }
-    let part = buffers[number];
-    let start = part.start;
-    let end = part.start + part.len;
-    &bytes[start..end]
 }

@@ -22,11 +22,7 @@ fn no_nulls(parcel: &[u8], mask: Option<Part>, rows: usize) -> bool
     ensures { result ≡ not (null_in rows (mask_of parcel.now mask)) }
 {
     match mask {
-        Some(part) => {
-            let start = part.start;
-            let end = part.start + part.len;
-            all_valid(&parcel[start..end], rows)
-        }
+        Some(part) => all_valid(part.of(parcel), rows),
         None => true,
     }
 }
@@ -35,9 +31,7 @@ fn ends_reach(parcel: &[u8], d: Draft, width: Width, top: u64) -> bool
     requires { (Drafted parcel.now d) × (d.parts.body.len ≡ bytes_of width * d.head.rows) }
     ensures { result ≡ (climbs 0 (values_in (bytes_of width) d.head.rows (within parcel.now d.parts.body)) top && nat_le top (highest (bytes_of width))) }
 {
-    let start = d.parts.body.start;
-    let end = d.parts.body.start + d.parts.body.len;
-    sound_ends(&parcel[start..end], width, d.head.rows as usize, top)
+    sound_ends(d.parts.body.of(parcel), width, top)
 }
 
 // Whether a node is sound as its parent asks: run ends climb to the parent's rows, and no entry of a map is null. A node

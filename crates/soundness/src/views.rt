@@ -10,19 +10,16 @@ ghost use Rattle.soundness.specs.Sources.{Indexed, sources, view_fine};
 
 use crate::lents::{find, places_of, source};
 use crate::places::Places;
-use crate::values::four;
+use pools::laid::Laid;
 use pools::records::Part;
 
 // A text of this length lies in a data buffer at the offset, and begins with the prefix.
-fn holds(source: &[u8], offset: u64, len: u64, prefix: u64) -> bool
-    requires { (4 ≤ len) × ((len < 4294967296) × (offset < 4294967296)) }
+fn holds(source: &[u8], offset: u32, len: u32, prefix: u32) -> bool
+    requires { 4 ≤ len }
     ensures { result ≡ (nat_le (offset + len) (length source.now) && prefix == little_endian (slice source.now offset 4)) }
 {
-    if offset + len > source.len() as u64 {
-        return false;
-    }
     let start = offset as usize;
-    prefix == four(&source[start..])
+    start + len as usize <= source.len() && prefix == u32::first_of(&source[start..])
 }
 
 // A long view's position is in the node's list, its text in that data buffer, and its prefix the text's first bytes.
@@ -41,14 +38,14 @@ fn sound_view(
     requires inside { AllByRecursion (Within bytes.now) buffers.now }
     ensures { result ≡ view_fine (sources parcel.now bytes.now buffers.now lent) lent.len (view_in view.now) }
 {
-    let len = four(view);
+    let len = u32::first_of(view);
     if len <= 12 {
         return true;
     }
-    let prefix = four(&view[4..]);
-    let position = four(&view[8..]);
-    let offset = four(&view[12..]);
-    if position >= lent.len as u64 {
+    let prefix = u32::first_of(&view[4..]);
+    let position = u32::first_of(&view[8..]);
+    let offset = u32::first_of(&view[12..]);
+    if position as usize >= lent.len {
         return false;
     }
     let text = source(

@@ -19,7 +19,8 @@ use Rattle.filing.specs.Masks.{mask_len, mask_sent}
 use Rattle.filing.specs.Plans.{place_in}
 use Rattle.filing.specs.News.{plan_in, brought_by, plain_start, brought_start}
 use Rattle.filing.proofs.Numbers.{made_same}
-use Rattle.filing.proofs.Fitting.{fit_less, fit_next, plan_within, plan_room, bytes_room, brought_room, own_planned, entry_is}
+use Rattle.filing.proofs.Fitting.{fit_less, fit_next, PlanFits, plan_within, PlanRoom, plan_room, bytes_room, brought_room, own_planned, entry_is}
+use Rattle.filing.proofs.node.put_node.Goals.{After-of-body}
 use Rattle.filing.proofs.node.put_node.Goals as goal
 
 pub copy_parts-copied-requires : goal.copy_parts-copied-requires
@@ -35,61 +36,46 @@ copy_parts-copied-requires c =
       plain = fits.plain;
     }
 
+-- what the plan takes lies within the body, and has room
+fits : (c : After-of-body) → PlanFits c.args.parcel.now c.args.draft.parts (length c.of-body.result.now) c.plan_for-plan.result
+fits c = plan_within c.args.parcel.now c.args.draft c.plan_for-plan.result c.plan_for-plan.ensures c.requires.drafted c.requires.filled.body _ c.of-body.ensures
+
+room : (c : After-of-body) → PlanRoom c.args.pools.now c.plan_for-plan.result
+room c = plan_room c.args.pools.now c.args.parcel.now c.args.draft c.args.span (marks_of c.args.pools.now) c.plan_for-plan.result c.plan_for-plan.ensures c.requires.room
+
 pub put_entries-requires : goal.put_entries-requires
-put_entries-requires c =
-    let e = c.plan_for-plan.ensures in
-    let fits = plan_within c.args.parcel.now c.args.draft c.plan_for-plan.result e c.requires.drafted c.requires.filled.body _ c.of-body.ensures in
-    let room = plan_room c.args.pools.now c.args.parcel.now c.args.draft c.args.span (marks_of c.args.pools.now) c.plan_for-plan.result e c.requires.room in
-    record { room = room.shorts; filled = fits.shorts }
+put_entries-requires c = let b = (goal.at.put_entries-requires c).After-of-body in record { room = (room b).shorts; filled = (fits b).shorts }
 
 pub put_entries-requires-2 : goal.put_entries-requires-2
-put_entries-requires-2 c =
-    let e = c.plan_for-plan.ensures in
-    let fits = plan_within c.args.parcel.now c.args.draft c.plan_for-plan.result e c.requires.drafted c.requires.filled.body _ c.of-body.ensures in
-    let room = plan_room c.args.pools.now c.args.parcel.now c.args.draft c.args.span (marks_of c.args.pools.now) c.plan_for-plan.result e c.requires.room in
-    record { room = room.words; filled = fits.words }
+put_entries-requires-2 c = let b = (goal.at.put_entries-requires-2 c).After-of-body in record { room = (room b).words; filled = (fits b).words }
 
 pub put_entries-requires-3 : goal.put_entries-requires-3
-put_entries-requires-3 c =
-    let e = c.plan_for-plan.ensures in
-    let fits = plan_within c.args.parcel.now c.args.draft c.plan_for-plan.result e c.requires.drafted c.requires.filled.body _ c.of-body.ensures in
-    let room = plan_room c.args.pools.now c.args.parcel.now c.args.draft c.args.span (marks_of c.args.pools.now) c.plan_for-plan.result e c.requires.room in
-    record { room = room.longs; filled = fits.longs }
+put_entries-requires-3 c = let b = (goal.at.put_entries-requires-3 c).After-of-body in record { room = (room b).longs; filled = (fits b).longs }
 
 pub put_offsets-requires : goal.put_offsets-requires
-put_offsets-requires c =
-    let e = c.plan_for-plan.ensures in
-    let fits = plan_within c.args.parcel.now c.args.draft c.plan_for-plan.result e c.requires.drafted c.requires.filled.body _ c.of-body.ensures in
-    let room = plan_room c.args.pools.now c.args.parcel.now c.args.draft c.args.span (marks_of c.args.pools.now) c.plan_for-plan.result e c.requires.room in
-    record { room = room.offsets; filled = fits.offsets }
+put_offsets-requires c = let b = (goal.at.put_offsets-requires c).After-of-body in record { room = (room b).offsets; filled = (fits b).offsets }
 
 pub put_entries-requires-4 : goal.put_entries-requires-4
-put_entries-requires-4 c =
-    let e = c.plan_for-plan.ensures in
-    let fits = plan_within c.args.parcel.now c.args.draft c.plan_for-plan.result e c.requires.drafted c.requires.filled.body _ c.of-body.ensures in
-    let room = plan_room c.args.pools.now c.args.parcel.now c.args.draft c.args.span (marks_of c.args.pools.now) c.plan_for-plan.result e c.requires.room in
-    record { room = room.views; filled = fits.views }
+put_entries-requires-4 c = let b = (goal.at.put_entries-requires-4 c).After-of-body in record { room = (room b).views; filled = (fits b).views }
 
 pub put_numbers-buffers-requires : goal.put_numbers-buffers-requires
 put_numbers-buffers-requires c =
-    let e = c.plan_for-plan.ensures in
-    let fits = plan_within c.args.parcel.now c.args.draft c.plan_for-plan.result e c.requires.drafted c.requires.filled.body _ c.of-body.ensures in
-    let room = plan_room c.args.pools.now c.args.parcel.now c.args.draft c.args.span (marks_of c.args.pools.now) c.plan_for-plan.result e c.requires.room in
+    let b = (goal.at.put_numbers-buffers-requires c).After-of-body in
     let most = brought_room c.args.pools.now c.args.parcel.now c.args.draft c.args.span (marks_of c.args.pools.now) c.requires.room in
     let mark : c.marks-marks.result.buffers ≡ c.args.pools.now.buffers.mark = ap (λ (m : Marks). m.buffers) c.marks-marks.ensures in
-    record { inside = fits.list; room = room.lists; few = omega (arith, most.capped, fits.new, mark) }
+    record { inside = (fits b).list; room = (room b).lists; few = omega (arith, most.capped, (fits b).new, mark) }
 
 pub put_brought-requires : goal.put_brought-requires
 put_brought-requires c =
     let e = c.plan_for-plan.ensures in
-    let fits = plan_within c.args.parcel.now c.args.draft c.plan_for-plan.result e c.requires.drafted c.requires.filled.body _ c.of-body.ensures in
+    let plain = (fits (goal.at.put_brought-requires c).After-of-body).plain in
     record {
       inside = c.requires.drafted.lent;
       shelved = brought_room c.args.pools.now c.args.parcel.now c.args.draft c.args.span (marks_of c.args.pools.now) c.requires.room;
       held =
           fit_next c.copy_parts-copied.new.bytes (c.args.draft.head.format.len + (mask_len c.args.draft.parts.mask + c.plan_for-plan.result.plain.len)) (length (flat (brought_by c.args.parcel.now c.args.draft)))
-          (own_planned c.args.parcel.now c.args.draft c.plan_for-plan.result e c.requires.drafted fits.plain)
-          (bytes_room c.args.pools.now c.args.parcel.now c.args.draft c.args.span (marks_of c.args.pools.now) c.plan_for-plan.result e c.requires.drafted fits.plain c.requires.room)
+          (own_planned c.args.parcel.now c.args.draft c.plan_for-plan.result e c.requires.drafted plain)
+          (bytes_room c.args.pools.now c.args.parcel.now c.args.draft c.args.span (marks_of c.args.pools.now) c.plan_for-plan.result e c.requires.drafted plain c.requires.room)
           c.copy_parts-copied.ensures.added;
     }
 
@@ -102,8 +88,7 @@ returns c =
     let e : c.plan_for-plan.result ≡ plan_in d = c.plan_for-plan.ensures in
     let body : c.of-body.result.now ≡ within parcel d.parts.body = c.of-body.ensures in
     let marks : c.marks-marks.result ≡ m = c.marks-marks.ensures in
-    let fits = plan_within parcel d c.plan_for-plan.result e c.requires.drafted c.requires.filled.body _ refl in
-    let own = own_planned parcel d c.plan_for-plan.result e c.requires.drafted fits.plain in
+    let own = own_planned parcel d c.plan_for-plan.result e c.requires.drafted (fits (goal.at.returns c).After-of-body).plain in
     let text : c.copy_parts-copied.result.plain ≡ (let t : Part = record { start = plain_start d m; len = (plan_in d).plain.len } in t) =
     c.copy_parts-copied.ensures.plain ∙ ap (λ (x : Plan). (let t : Part = record { start = plain_start d m; len = x.plain.len } in t)) e in
     let after : c.copy_parts-copied.new.bytes.mark ≡ brought_start d m =

@@ -1,15 +1,14 @@
-use Rattle.std.proofs.Common.{◌+◌, sym, ◌∙◌}
+use Rattle.std.proofs.Common.{rules, ℕ, Bool, ◌-◌, ◌*◌, ◌^◌, ◌&&◌, leb, ltb, ap, ◌∙◌}
 use Rattle.formats.specs.Spelled.{bytes_of}
-use Rattle.soundness.proofs.Falls.{rising_more, falls, rising_all}
+use Rattle.soundness.specs.Walks.{all_values}
+use Rattle.soundness.proofs.Falls.{and_some, some_by, walk_rises}
 use Rattle.soundness.proofs.offsets.sound_offsets.Goals as goal
-
-pub returns-then-next-low : goal.returns-then-next-low
-returns-then-next-low c = falls (bytes_of c.args.width) (c.args.rows + 1) c.args.body.now c.loop-i.i c.loop-i.low c.value-next.result c.loop-i-test.true c.value-next.ensures c.loop-i.invariant c.args.bound c.if-next-low.true
-
-pub loop-i-preserved : goal.loop-i-preserved
-loop-i-preserved c = rising_more (bytes_of c.args.width) (c.args.rows + 1) c.args.body.now c.loop-i.i c.loop-i.low c.value-next.result c.loop-i-test.true c.value-next.ensures c.loop-i.invariant c.if-next-low.false
 
 pub returns : goal.returns
 returns c =
-    c.within_bound.ensures
-    ∙ sym (rising_all (bytes_of c.args.width) (c.args.rows + 1) c.args.body.now c.loop-i.i c.loop-i.low c.args.bound c.loop-i-test.false c.loop-i.invariant)
+    let w = bytes_of c.args.width in
+    let t : ℕ → Bool = λ x. leb x c.args.bound in
+    let u : ℕ → Bool = λ x. ltb x (2 ^ (8 * w - 1)) in
+    some_by c.last_in_order.result c.is_some_and.result (λ x. t x && u x) _ c.is_some_and.ensures (λ x p. search rules)
+    ∙ ap (λ o. and_some o (λ x. t x && u x)) (c.last_in_order.ensures leb (λ a b r p. search rules))
+    ∙ walk_rises t u 0 (all_values w c.args.body.now)
