@@ -15,17 +15,18 @@ fn digit(n: u8) -> u8
     requires { n < 16 }
     ensures { result ≡ hex_digit n }
 {
-    if n < 10 { b'0' + n } else { b'a' - 10 + n }
+    b"0123456789abcdef"[usize::from(n)]
 }
 
 // Byte k of a number, the lowest being byte 0. Past the eight that it has they are 0.
 fn byte_of(value: u64, k: u8) -> u8
     ensures { result ≡ value / 256 ^ k % 256 }
 {
-    match value.to_le_bytes().get(usize::from(k)) {
-        Some(byte) => *byte,
-        None => 0,
-    }
+    value
+        .to_le_bytes()
+        .get(usize::from(k))
+        .copied()
+        .unwrap_or(0)
 }
 
 // Where the first byte that has no room is refused, what was written before it stays.

@@ -58,14 +58,17 @@ pub fn read(pools: &Pools<'_>, column: u32, row: usize, text: &mut [u8]) -> Resu
     requires given { ∥ ((s : Shelf) × ShelfReadable (store pools.now) s) ∥₁ }
     ensures { (lengths : Entries) (s : Shelf) → ShelfReadable (store pools.now) s → Gives result (answer lengths s (reads column row (length text.old))) text.old text.new }
 {
-    let Some(entry) = pools.columns.used().get(column as usize) else {
-        return Err(Denial::NoColumn(column));
-    };
+    let entry = pools
+        .columns
+        .used()
+        .get(column as usize)
+        .ok_or(Denial::NoColumn(column))?;
     let root = entry.root;
     if row >= node_at(&pools.nodes, root).rows as usize {
         return Err(Denial::Outside(row));
     }
-    match (Shown { pools }).row_text(root, row, text) {
+    let shown = Shown { pools };
+    match shown.row_text(root, row, text) {
         Some(len) => Ok(len),
         None => Err(Denial::Text(text.len())),
     }

@@ -1,8 +1,9 @@
 // The text of a row, with all that lies below it. Each function says what is written of any column that is stored at the
 // place and can be read there.
-ghost use Rattle.std.specs.Prelude.{◌≡◌, ◌<◌, if◌then◌else◌, [], ◌∷◌, length};
+ghost use Rattle.std.specs.Prelude.{◌≡◌, ◌<◌, not, if◌then◌else◌, [], ◌∷◌, length};
 ghost use Rattle.columns.specs.Column.{Column, Columns};
 ghost use Rattle.columns.specs.Says.{entry};
+ghost use Rattle.pools.specs.Bits.{mask_bit, MaskThere};
 ghost use Rattle.pools.specs.Store.{store, node_entry};
 ghost use Rattle.reading.specs.Inked.{Wrote};
 ghost use Rattle.reading.specs.Readable.{RowReadable, RowsReadable, FieldsReadable, row_text, rows_text, fields_text, ends_at, EndsIn};
@@ -11,7 +12,7 @@ use crate::ink::{Full, Ink};
 use crate::shape::Shape;
 use crate::shown::Shown;
 use formats::kind::Kind;
-use pools::records::Part;
+use pools::records::{Node, Part};
 use rows::ranges::range_at;
 use rows::runs::entry_of;
 use rows::tree::{next_child, node_at};
@@ -32,16 +33,22 @@ impl Shown<'_> {
         ensures { let P = store self.entry.pools.now in result ≡ entry (ends_at P (node_entry P ends) (node_entry P ends).kind) row }
     {
         let node = node_at(&self.pools.nodes, ends);
-        match node.kind {
-            Kind::Primitive(width) => {
-                let ends = Part {
-                    start: node.place,
-                    len: node.rows as usize,
-                };
-                entry_of(self.pools, width, ends, row as u64)
-            }
-            _ => unreachable!(),
-        }
+        let Kind::Primitive(width) = node.kind else {
+            unreachable!()
+        };
+        let ends = Part {
+            start: node.place,
+            len: node.rows as usize,
+        };
+        entry_of(self.pools, width, ends, row as u64)
+    }
+
+    // Whether a row is null by its node's mask.
+    fn is_null(self, node: &Node, row: usize) -> bool
+        requires { MaskThere (store self.pools.now).bytes node.now.mask row }
+        ensures { result ≡ not (mask_bit (store self.entry.pools.now).bytes node.now.mask row) }
+    {
+        !is_valid(&self.pools.bytes, node.mask, row)
     }
 
     // A row. A child has one level less.
@@ -57,7 +64,7 @@ impl Shown<'_> {
         ensures { (c : Column) → RowReadable (store self.entry.pools.now) place c row levels → Wrote I.room I.marked ink.old (row_text (store self.entry.pools.now) c row) ink.new result }
     {
         let node = node_at(&self.pools.nodes, place);
-        if !is_valid(&self.pools.bytes, node.mask, row) {
+        if self.is_null(&node, row) {
             return ink.put(b'-');
         }
         match Shape::from(node.kind) {

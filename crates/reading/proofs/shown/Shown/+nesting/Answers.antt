@@ -68,17 +68,17 @@ put_fields-returns g t c = λ cs r. fields_end cs c.loop-k-test.false (c.loop-k.
 pub put_row-node_at-node-requires : goal.put_row-node_at-node-requires
 put_row-node_at-node-requires g t c = ∥∥₁_elim c.requires le_prop (λ given. known given.0 given.1.column)
 
-pub put_row-is_valid-requires : goal.put_row-is_valid-requires
-put_row-is_valid-requires g t c =
+pub put_row-is_null-requires : goal.put_row-is_null-requires
+put_row-is_null-requires g t c =
     let P = store c.args.self.pools.now in
     ∥∥₁_elim c.requires (mask_there_prop P.bytes c.node_at-node.result.mask c.args.row)
     (λ given. subst (λ (x : Entry). MaskThere P.bytes x.mask c.args.row) (sym c.node_at-node.ensures.is) (mask_there given.0 given.1))
 
-pub put_row-returns-then-not-is_valid : goal.put_row-returns-then-not-is_valid
-put_row-returns-then-not-is_valid g t c = λ d q.
+pub put_row-returns-then-is_null : goal.put_row-returns-then-is_null
+put_row-returns-then-is_null g t c = λ d q.
     let room = g.I.Ink.room in let marked = g.I.Ink.marked in
     last room marked (c.args.ink.now, true) _ 45 c.put.ensures
-    ∙ ap (wrote room marked (c.args.ink.now, true)) (null_read d q c.node_at-node.ensures.is c.is_valid.ensures.is c.if-not-is_valid.true)
+    ∙ ap (wrote room marked (c.args.ink.now, true)) (null_read d q c.node_at-node.ensures.is c.is_null.ensures c.if-is_null.true)
 
 pub put_row-leaf-requires : goal.put_row-leaf-requires
 put_row-leaf-requires g t c =
@@ -90,7 +90,7 @@ put_row-leaf-requires g t c =
 pub put_row-returns-in-Leaf : goal.put_row-returns-in-Leaf
 put_row-returns-in-Leaf g t c = λ d q.
     c.leaf.ensures
-    ∙ ap (wrote g.I.Ink.room g.I.Ink.marked (c.args.ink.now, true)) (leaf_said d q c.node_at-node.ensures.is c.is_valid.ensures.is c.if-not-is_valid.false c.in-Leaf.ensures)
+    ∙ ap (wrote g.I.Ink.room g.I.Ink.marked (c.args.ink.now, true)) (leaf_said d q c.node_at-node.ensures.is c.is_null.ensures c.if-is_null.false c.in-Leaf.ensures)
 
 pub put_row-range_at-rows-requires : goal.put_row-range_at-rows-requires
 put_row-range_at-rows-requires g t c =
@@ -104,7 +104,7 @@ put_row-returns-in_err-put-in-Ranges g t c = λ d q.
     let room = g.I.Ink.room in let marked = g.I.Ink.marked in let P = store c.args.self.pools.now in
     refused_byte room marked (c.args.ink.now, true) c.put-in-Ranges.new.self 91 (rows_text P (first (children d)) c.range_at-rows.result ++ 93 ∷ []) c.from_residual.result c.from_residual.ensures.0
     c.in_err-put-in-Ranges.ensures
-    ∙ ap (wrote room marked (c.args.ink.now, true)) (ranges_said d q c.node_at-node.ensures.is c.is_valid.ensures.is c.if-not-is_valid.false c.in-Ranges.ensures c.range_at-rows.ensures.is)
+    ∙ ap (wrote room marked (c.args.ink.now, true)) (ranges_said d q c.node_at-node.ensures.is c.is_null.ensures c.if-is_null.false c.in-Ranges.ensures c.range_at-rows.ensures.is)
 
 pub put_row-overflow_sub-levels : goal.put_row-overflow_sub-levels
 put_row-overflow_sub-levels g t c = ∥∥₁_elim c.requires le_prop (λ given. deep given.0 given.1.column)
@@ -122,7 +122,7 @@ put_row-returns-in_err-put_rows-in-Ranges g t c = λ d q.
     refused room marked (c.put-in-Ranges.new.self, true) c.put_rows.new.ink body (93 ∷ []) c.from_residual-in_err-put_rows-in-Ranges.result c.from_residual-in_err-put_rows-in-Ranges.ensures.0
     (c.in_err-put_rows-in-Ranges.ensures (first (children d)) (rows_there d q e c.in-Ranges.ensures h))
     ∙ step room marked (c.args.ink.now, true) (c.put-in-Ranges.new.self, true) 91 (body ++ 93 ∷ []) c.in_ok-put-in-Ranges.ensures
-    ∙ ap (wrote room marked (c.args.ink.now, true)) (ranges_said d q e c.is_valid.ensures.is c.if-not-is_valid.false c.in-Ranges.ensures h)
+    ∙ ap (wrote room marked (c.args.ink.now, true)) (ranges_said d q e c.is_null.ensures c.if-is_null.false c.in-Ranges.ensures h)
 
 pub put_row-returns-in_ok-put_rows-in-Ranges : goal.put_row-returns-in_ok-put_rows-in-Ranges
 put_row-returns-in_ok-put_rows-in-Ranges g t c = λ d q.
@@ -132,14 +132,14 @@ put_row-returns-in_ok-put_rows-in-Ranges g t c = λ d q.
     last room marked (c.put_rows.new.ink, true) _ 93 c.put-in-Ranges-2.ensures
     ∙ piece room marked (c.put-in-Ranges.new.self, true) (c.put_rows.new.ink, true) body (93 ∷ []) (c.in_ok-put_rows-in-Ranges.ensures (first (children d)) (rows_there d q e c.in-Ranges.ensures h))
     ∙ step room marked (c.args.ink.now, true) (c.put-in-Ranges.new.self, true) 91 (body ++ 93 ∷ []) c.in_ok-put-in-Ranges.ensures
-    ∙ ap (wrote room marked (c.args.ink.now, true)) (ranges_said d q e c.is_valid.ensures.is c.if-not-is_valid.false c.in-Ranges.ensures h)
+    ∙ ap (wrote room marked (c.args.ink.now, true)) (ranges_said d q e c.is_null.ensures c.if-is_null.false c.in-Ranges.ensures h)
 
 pub put_row-returns-in_err-put-in-Fields : goal.put_row-returns-in_err-put-in-Fields
 put_row-returns-in_err-put-in-Fields g t c = λ d q.
     let room = g.I.Ink.room in let marked = g.I.Ink.marked in let P = store c.args.self.pools.now in
     refused_byte room marked (c.args.ink.now, true) c.put-in-Fields.new.self 123 (fields_text P (children d) c.args.row ++ 125 ∷ []) c.from_residual-in_err-put-in-Fields.result c.from_residual-in_err-put-in-Fields.ensures.0
     c.in_err-put-in-Fields.ensures
-    ∙ ap (wrote room marked (c.args.ink.now, true)) (fields_said d q c.node_at-node.ensures.is c.is_valid.ensures.is c.if-not-is_valid.false c.in-Fields.ensures)
+    ∙ ap (wrote room marked (c.args.ink.now, true)) (fields_said d q c.node_at-node.ensures.is c.is_null.ensures c.if-is_null.false c.in-Fields.ensures)
 
 pub put_row-overflow_add-place-in-Fields : goal.put_row-overflow_add-place-in-Fields
 put_row-overflow_add-place-in-Fields g t c =
@@ -162,7 +162,7 @@ put_row-returns-in_err-put_fields-in-Fields g t c = λ d q.
     refused room marked (c.put-in-Fields.new.self, true) c.put_fields.new.ink body (125 ∷ []) c.from_residual-in_err-put_fields-in-Fields.result c.from_residual-in_err-put_fields-in-Fields.ensures.0
     (c.in_err-put_fields-in-Fields.ensures (children d) (fields_there d q e c.in-Fields.ensures))
     ∙ step room marked (c.args.ink.now, true) (c.put-in-Fields.new.self, true) 123 (body ++ 125 ∷ []) c.in_ok-put-in-Fields.ensures
-    ∙ ap (wrote room marked (c.args.ink.now, true)) (fields_said d q e c.is_valid.ensures.is c.if-not-is_valid.false c.in-Fields.ensures)
+    ∙ ap (wrote room marked (c.args.ink.now, true)) (fields_said d q e c.is_null.ensures c.if-is_null.false c.in-Fields.ensures)
 
 pub put_row-returns-in_ok-put_fields-in-Fields : goal.put_row-returns-in_ok-put_fields-in-Fields
 put_row-returns-in_ok-put_fields-in-Fields g t c = λ d q.
@@ -172,7 +172,7 @@ put_row-returns-in_ok-put_fields-in-Fields g t c = λ d q.
     last room marked (c.put_fields.new.ink, true) _ 125 c.put-in-Fields-2.ensures
     ∙ piece room marked (c.put-in-Fields.new.self, true) (c.put_fields.new.ink, true) body (125 ∷ []) (c.in_ok-put_fields-in-Fields.ensures (children d) (fields_there d q e c.in-Fields.ensures))
     ∙ step room marked (c.args.ink.now, true) (c.put-in-Fields.new.self, true) 123 (body ++ 125 ∷ []) c.in_ok-put-in-Fields.ensures
-    ∙ ap (wrote room marked (c.args.ink.now, true)) (fields_said d q e c.is_valid.ensures.is c.if-not-is_valid.false c.in-Fields.ensures)
+    ∙ ap (wrote room marked (c.args.ink.now, true)) (fields_said d q e c.is_null.ensures c.if-is_null.false c.in-Fields.ensures)
 
 pub put_row-run_at-entry-requires-clause-there : goal.put_row-run_at-entry-requires-clause-there
 put_row-run_at-entry-requires-clause-there g t c =
@@ -223,7 +223,7 @@ put_row-returns-in-Runs g t c = λ d q.
     (run_given d c.next_child-values.result q s
     (c.next_child-values.ensures.told P (children d) refl (omega arith) (stored_children P c.args.place d q.column.stored)).1))
     ∙ ap (wrote room marked (c.args.ink.now, true))
-    (ap (row_text P (nth (children d) 1)) c.run_at-entry.ensures ∙ sym (runs_row d q (valid_at P c.args.place c.args.row true e c.is_valid.ensures.is c.if-not-is_valid.false) s))
+    (ap (row_text P (nth (children d) 1)) c.run_at-entry.ensures ∙ sym (runs_row d q (valid_at P c.args.place c.args.row true e c.is_null.ensures c.if-is_null.false) s))
 
 -- Some rows of a column.
 pub put_rows-overflow_add-k-end : goal.put_rows-overflow_add-k-end
