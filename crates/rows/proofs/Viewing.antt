@@ -30,7 +30,7 @@ short_inline : (b : Bool) (len a p o : ℕ) (inline : List ℕ) (len' : ℕ) (ke
 short_inline true len a p o inline len' kept e = cc
 short_inline false len a p o inline len' kept e = cc
 
-byte_powers : (i : ℕ) → 256 ^ i ≡ 2 ^ (8 * i)
+pub byte_powers : (i : ℕ) → 256 ^ i ≡ 2 ^ (8 * i)
 byte_powers zero = refl
 byte_powers (suc i) =
     pow-suc 256 i ∙ ap (λ n. n * 256) (byte_powers i) ∙ sym (pow-add 2 (8 * i) 8) ∙ ap (λ n. 2 ^ n) (let e : 8 * i + 8 ≡ 8 * suc i = omega arith in e)
