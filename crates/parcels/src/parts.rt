@@ -15,6 +15,7 @@ use denials::Denial;
 use pools::records::Part;
 
 impl Reader<'_> {
+    // A buffer, where there is one.
     fn buffer_if(&mut self, wanted: bool) -> Result<Option<Part>, Denial>
         ensures reads { (bs : List (List ℕ)) → outcome (mask_of self.old.parcel.now) (λ x. stands self.new bs) result ≡ mask_if wanted (stands self.old bs) }
         ensures or_empty { (bs : List (List ℕ)) → outcome (λ x. within self.old.parcel.now (or_empty x)) (λ x. stands self.new bs) result ≡ buffer_if wanted (stands self.old bs) }
