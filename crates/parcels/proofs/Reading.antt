@@ -12,7 +12,7 @@ use Rattle.columns.specs.Reading as rules_reading
 use Rattle.columns.specs.Sent as rules_sent
 use Rattle.parcels.specs.declared.draft.Place.{Place}
 use Rattle.parcels.specs.Reads.{placed, stepped, within, Reaches, name_in}
-use Rattle.parcels.specs.Sents.{SentAs, size_sent, name_sent}
+use Rattle.parcels.specs.Sents.{SentSo, SentAt, size_sent, name_sent}
 use Rattle.parcels.specs.declared.sent.Sent.{Sent}
 use Rattle.parcels.specs.declared.sent.Sent.TheVariants.{Brought, Named}
 
@@ -29,9 +29,6 @@ module _ (parcel : List ℕ) (p : Place) (bs : List (List ℕ)) where
       (le-leb n (length (drop p.at parcel)) (simp length-drop (omega arith)))
       ∙ ap (λ (l : List ℕ). reached (take n (drop p.at parcel)) (record { passed = p.at + n; ahead = l; nodes = p.nodes; buffers = bs })) (drop-drop n p.at parcel)
 
-  pub buffer_short : p.at ≤ length parcel → length parcel < p.at + (4 + buffer_length (drop p.at parcel)) → buffer (placed parcel p bs) ≡ denied (denial 1 p.at)
-  buffer_short i h = ap (λ (o : Outcome (List ℕ)). onward o (λ b. give (drop 4 b))) (item_short (4 + buffer_length (drop p.at parcel)) i h)
-
   pub buffer_long : (n : ℕ) → n ≡ buffer_length (drop p.at parcel) → p.at + (4 + n) ≤ length parcel
       → buffer (placed parcel p bs) ≡ reached (within parcel (record { start = p.at + 4; len = n })) (placed parcel (stepped p (4 + n)) bs)
   buffer_long n e h =
@@ -40,20 +37,12 @@ module _ (parcel : List ℕ) (p : Place) (bs : List (List ℕ)) where
       ∙ ap (λ (l : List ℕ). reached l (placed parcel (stepped p (4 + n)) bs)) (drop-take 4 n (drop p.at parcel) ∙ ap (take n) (drop-drop 4 p.at parcel))
 
 module _ (parcel : List ℕ) (p : Place) (bs : List (List ℕ)) where
-  pub head_short : p.at ≤ length parcel → length parcel < p.at + 8 → head (placed parcel p bs) ≡ denied (denial 1 p.at)
-  head_short i h = ap (λ (o : Outcome (List ℕ)). onward o (λ bits. item (λ bytes. get_or bits 0 0 % 128) >>= λ f. give (head_from bits f))) (item_short parcel p bs 8 i h)
-
   head_open : (n : ℕ) → p.at + 8 ≤ length parcel → n ≡ get_or (drop p.at parcel) 0 0 % 128
       → head (placed parcel p bs) ≡ onward (item_of n (placed parcel (stepped p 8) bs)) (λ f. give (head_from (take 8 (drop p.at parcel)) f))
   head_open n h e =
       ap (λ (o : Outcome (List ℕ)). onward o (λ bits. item (λ bytes. get_or bits 0 0 % 128) >>= λ f. give (head_from bits f))) (item_long parcel p bs 8 h)
       ∙ ap (λ (m : ℕ). onward (item_of m (placed parcel (stepped p 8) bs)) (λ f. give (head_from (take 8 (drop p.at parcel)) f)))
       (ap (λ (m : ℕ). m % 128) (get_or-take 8 (drop p.at parcel) 0 0 (omega arith)) ∙ sym e)
-
-  pub head_cut : (n : ℕ) → p.at + 8 ≤ length parcel → n ≡ get_or (drop p.at parcel) 0 0 % 128 → length parcel < p.at + 8 + n
-      → head (placed parcel p bs) ≡ denied (denial 1 (p.at + 8))
-  head_cut n h e s =
-      head_open n h e ∙ ap (λ (o : Outcome (List ℕ)). onward o (λ f. give (head_from (take 8 (drop p.at parcel)) f))) (item_short parcel (stepped p 8) bs n h s)
 
   pub head_long : (x : List ℕ) (n : ℕ) → x ≡ take 8 (drop p.at parcel) → n ≡ get_or x 0 0 % 128 → p.at + 8 + n ≤ length parcel
       → head (placed parcel p bs) ≡ reached (head_from x (within parcel (record { start = p.at + 8; len = n }))) (placed parcel (stepped (stepped p 8) n) bs)
@@ -128,7 +117,7 @@ passed p (Named number) = record { at = p.at + 4; nodes = p.nodes; brought = p.b
 
 -- a data buffer that is sent so, and lies in the parcel
 module _ (parcel : List ℕ) (p : Place) (ahead : List ℕ) (a : ahead ≡ drop p.at parcel) where
-  reads_so : (s : Sent) → SentAs (drop p.at parcel) s → p.at + size_sent s ≤ length parcel
+  reads_so : (s : Sent) → SentAt parcel p.at s → p.at + size_sent s ≤ length parcel
       → (bs : List (List ℕ)) → Reaches parcel p bs (passed p s) (rules_sent.data_buffer (placed parcel p bs))
   reads_so (Named number) h i bs =
       record {
@@ -148,13 +137,13 @@ module _ (parcel : List ℕ) (p : Place) (ahead : List ℕ) (a : ahead ≡ drop 
         counted = simp length_push (omega arith);
       }
 
-  names_so : (s : Sent) → SentAs (drop p.at parcel) s → p.at + size_sent s ≤ length parcel
+  names_so : (s : Sent) → SentAt parcel p.at s → p.at + size_sent s ≤ length parcel
       → (bs : List (List ℕ)) → name_in (rules_sent.data_buffer (placed parcel p bs)) ≡ name_sent s
   names_so (Named number) h i bs =
       ap name_in (data_named parcel p bs (leb-true (2 ^ 31) (buffer_length (drop p.at parcel)) h.0) i) ∙ ap (λ (n : ℕ). Some n) (sym h.1)
   names_so (Brought len) h i bs = ap name_in (data_brought parcel p bs (leb-false (2 ^ 31) (buffer_length (drop p.at parcel)) h.0) (rw (← h.1) i))
 
-  module _ (s : Sent) (h : SentAs ahead s) (n : ℕ) (e : n ≡ size_sent s) (i : p.at + n ≤ length parcel) where
+  module _ (s : Sent) (h : SentSo ahead s) (n : ℕ) (e : n ≡ size_sent s) (i : p.at + n ≤ length parcel) where
     pub sent_read : (bs : List (List ℕ)) → Reaches parcel p bs (passed p s) (rules_sent.data_buffer (placed parcel p bs))
     sent_read = reads_so s (rw (← a) h) (rw (← e) i)
 

@@ -7,7 +7,7 @@ use Rattle.parcels.specs.declared.draft.Place.{Place}
 use Rattle.parcels.specs.declared.draft.Parts.{Parts}
 use Rattle.parcels.specs.Reads.{placed, sent_of, Reaches, LentAs, SentAs, stepped}
 use Rattle.columns.specs.Checks.{denial}
-use Rattle.parcels.proofs.Reading.{item_short, item_long}
+use Rattle.parcels.proofs.Reading.{item_long}
 use Rattle.parcels.proofs.Along.{Left, left_start, left_more, left_denied, left_all, length_span}
 
 pub record Walked (parcel : List ℕ) (p : Place) (bs : List (List ℕ)) (n k : ℕ) (q : Place) : Type 0 where
@@ -45,9 +45,6 @@ module _ (parcel : List ℕ) (p : Place) (bs : List (List ℕ)) (n : ℕ) where
 module _ (parcel : List ℕ) (p : Place) (bs : List (List ℕ)) where
   abbrev counted_on : List ℕ → Reading (List Data)
   counted_on c = each_of (λ (i : ℕ). data_buffer) (span 0 (big_endian c))
-
-  pub lent_short : (w : Bool) → w ≡ true → p.at ≤ length parcel → length parcel < p.at + 2 → data_buffers w (placed parcel p bs) ≡ denied (denial 1 p.at)
-  lent_short w t i h = rw t (ap (λ (o : Outcome (List ℕ)). onward o counted_on) (item_short parcel p bs 2 i h))
 
   pub lent_open : (w : Bool) (n : ℕ) (q : Place) → w ≡ true → n ≡ big_endian (take 2 (drop p.at parcel)) → q ≡ stepped p 2 → p.at + 2 ≤ length parcel
       → data_buffers w (placed parcel p bs) ≡ each_of (λ (i : ℕ). data_buffer) (span 0 n) (placed parcel q bs)

@@ -1,8 +1,8 @@
-ghost use Rattle.std.specs.Prelude.{◌≡◌, ℕ, ◌+◌, ◌-◌, ◌*◌, ◌%◌, ◌<◌, ◌≤◌, not, ◌&&◌, List, length, slice_index_or};
+// What is asked of a node before its buffers are read, and what its children are to it.
+ghost use Rattle.std.specs.Prelude.{◌≡◌, ℕ, ◌<◌, not, ◌&&◌, length, slice_index_or};
 ghost use Rattle.columns.specs.Kinds.{is_run_ended};
 ghost use Rattle.columns.specs.Sent.{sends as sendsOf};
-ghost use Rattle.columns.specs.Heads.{roles as roles_of, mask_allowed};
-ghost use Rattle.columns.specs.Heads.{allowed as allowedBy};
+ghost use Rattle.columns.specs.Heads.{roles as roles_of};
 ghost use Rattle.formats.specs.Spelled.{format_meant};
 ghost use Rattle.parcels.specs.Roles.{role_of, head_with, role_meant, allowed_meant, free_role};
 
@@ -17,17 +17,14 @@ const MOST_NODES: usize = 256;
 pub fn sends(format: Format) -> Sends
     ensures { (result.body, result.text, result.lent) ≡ sendsOf (format_meant format.entry).kind }
 {
-    let (body, text, lent) = match format {
-        Format::Primitive(_, _)
-        | Format::Timestamp { .. }
-        | Format::Boolean
-        | Format::List { .. }
-        | Format::Map => (true, false, false),
-        Format::Text { .. } => (true, true, false),
-        Format::View => (true, false, true),
-        Format::Struct | Format::RunEnds | Format::FixedList(_) => (false, false, false),
-    };
-    Sends { body, text, lent }
+    Sends {
+        body: !matches!(
+            format,
+            Format::Struct | Format::RunEnds | Format::FixedList(_)
+        ),
+        text: matches!(format, Format::Text { .. }),
+        lent: matches!(format, Format::View),
+    }
 }
 
 // How many children a node has; a struct has as many as it says.
@@ -67,12 +64,12 @@ fn is_struct(format: Format) -> bool
     matches!(format, Format::Struct)
 }
 
-fn role_fits(role: Role, format: Format, masked: bool, children: u8) -> bool
-    ensures { result ≡ role_meant (role_of role) (format_meant format.entry) masked children }
+fn role_fits(role: Role, format: Format, h: Head) -> bool
+    ensures { result ≡ role_meant (role_of role) (format_meant format.entry) h.masked h.children }
 {
     match role {
-        Role::Ends(_) => can_end(format) && !masked,
-        Role::Entries => is_struct(format) && children == 2,
+        Role::Ends(_) => can_end(format) && !h.masked,
+        Role::Entries => is_struct(format) && h.children == 2,
         Role::Free => true,
     }
 }
@@ -94,7 +91,7 @@ pub fn allowed(levels: u8, role: Role, format: Format, h: Head, nodes: usize) ->
 {
     h.children == children_of(format, h.children)
         && mask_fits(format, h.masked)
-        && role_fits(role, format, h.masked, h.children)
+        && role_fits(role, format, h)
         && h.rows <= MOST_ROWS
         && nodes <= MOST_NODES
         && levels > 0

@@ -33,9 +33,7 @@ impl<'a> Reader<'a> {
         let me = self.place.nodes;
         self.place.nodes += 1;
         let head = self.head()?;
-        let Some(format) = read_format(head.format.of(self.parcel)) else {
-            return Err(Denial::Unknown(me));
-        };
+        let format = read_format(head.format.of(self.parcel)).ok_or(Denial::Unknown(me))?;
         if !allowed(levels, role, format, head, me + 1) {
             return Err(Denial::Misplaced(me));
         }

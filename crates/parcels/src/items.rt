@@ -14,6 +14,7 @@ use pools::records::Part;
 // The bit of a header's first byte that says that the node has a mask; the others say how long its format is.
 const MASKED: u8 = 1 << 7;
 
+// The length that stands before a buffer: the number in four bytes, the highest first.
 pub fn length_of(ahead: &[u8]) -> Option<usize>
     ensures { elim result [
       | Some n ↦ (4 ≤ length ahead.now) × (n ≡ buffer_length ahead.now) × (n < 4294967296)
@@ -36,6 +37,7 @@ impl<'a> Reader<'a> {
         }
     }
 
+    // The bytes that are not read yet.
     pub(crate) fn ahead(&self) -> &'a [u8]
         ensures { result.now ≡ drop self.now.place.at self.now.parcel.now }
     {

@@ -36,7 +36,7 @@ impl Below {
     }
 }
 
-impl<'a> Reader<'a> {
+impl Reader<'_> {
     // A node with its children; each is drafted at its number. The answer is its rows.
     pub(crate) fn node(
         &mut self,

@@ -1,12 +1,12 @@
 // The buffers of a node.
-ghost use Rattle.std.specs.Prelude.{◌≡◌, ℕ, ◌<◌, ◌≤◌, List, length, drop, Ok, Err};
+ghost use Rattle.std.specs.Prelude.{◌≡◌, ℕ, ◌<◌, ◌≤◌, List, length, Ok, Err};
 ghost use Rattle.columns.specs.Reading.{denied, each_of};
 ghost use Rattle.columns.specs.Sent.{mask_if, buffer_if, data_buffer, data_buffers};
 ghost use Rattle.columns.specs.Says.{span};
 ghost use Rattle.denials.specs.Said.{said};
 ghost use Rattle.parcels.specs.Reads.{outcome, within, mask_of, Reaches, LentAs, parts_read, SentAs, MaskWithin, Inside, name_in, or_empty};
 ghost use Rattle.parcels.specs.Readers.{stands, Kept, SameNode};
-ghost use Rattle.parcels.specs.Sents.{SentAs as SentBy, name_sent};
+ghost use Rattle.parcels.specs.Sents.{SentAt, name_sent};
 
 use crate::draft::{Parts, Sends};
 use crate::reader::Reader;
@@ -15,6 +15,7 @@ use denials::Denial;
 use pools::records::Part;
 
 impl Reader<'_> {
+    // A buffer, where there is one.
     fn buffer_if(&mut self, wanted: bool) -> Result<Option<Part>, Denial>
         ensures reads { (bs : List (List ℕ)) → outcome (mask_of self.old.parcel.now) (λ x. stands self.new bs) result ≡ mask_if wanted (stands self.old bs) }
         ensures or_empty { (bs : List (List ℕ)) → outcome (λ x. within self.old.parcel.now (or_empty x)) (λ x. stands self.new bs) result ≡ buffer_if wanted (stands self.old bs) }
@@ -37,7 +38,7 @@ impl Reader<'_> {
         ] }
         ensures names { (bs : List (List ℕ)) → elim result [ Ok x ↦ name_in (data_buffer (stands self.old bs)) ≡ name_sent x | Err _ ↦ Unit {0} ] }
         ensures same { SameNode self.old self.new }
-        ensures inside { elim result [ Ok x ↦ SentBy (drop self.old.place.at self.old.parcel.now) x | Err d ↦ d ≡ Denial.Ends self.new.place.at ] }
+        ensures inside { elim result [ Ok x ↦ SentAt self.old.parcel.now self.old.place.at x | Err d ↦ d ≡ Denial.Ends self.new.place.at ] }
     {
         let sent = Sent::read(self.ahead()).ok_or(Denial::Ends(self.place.at))?;
         self.item(sent.size())?;

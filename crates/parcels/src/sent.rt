@@ -1,6 +1,6 @@
 // How a data buffer is sent.
 ghost use Rattle.std.specs.Prelude.{◌≡◌, ◌<◌, ◌≤◌, ◌^◌, length, Some, None};
-ghost use Rattle.parcels.specs.Sents.{SentAs, size_sent};
+ghost use Rattle.parcels.specs.Sents.{SentSo, size_sent};
 
 use crate::items::length_of;
 
@@ -18,7 +18,7 @@ impl Sent {
     // How the data buffer at the front of these bytes is sent.
     pub fn read(ahead: &[u8]) -> Option<Sent>
         ensures { elim result [
-          | Some x ↦ (4 ≤ length ahead.now) × SentAs ahead.now x
+          | Some x ↦ (4 ≤ length ahead.now) × SentSo ahead.now x
           | None ↦ length ahead.now < 4
         ] }
     {
