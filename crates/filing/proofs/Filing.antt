@@ -30,12 +30,12 @@ use Rattle.parcels.specs.Reads.{within}
 use Rattle.parcels.specs.Lent.{data_from}
 use Rattle.parcels.specs.Drafts.{Drafted, node_in}
 use Rattle.filing.specs.Lent.{flat, parts_from}
-use Rattle.filing.proofs.Numbers.{halves_at}
+use Rattle.pools.specs.Laid.{halves_in}
 use Rattle.filing.specs.News.{News, Room, Gained, Filled, node_news, plan_in, own_bytes, brought_by, brought_start, entry_of}
 use Rattle.filing.specs.Row.{Row}
 use Rattle.filing.specs.Filed.{takes, both, takes_all, nodes_from, brought_all, Fits, Filed}
 use Rattle.filing.proofs.Lents.{parts_length}
-use Rattle.filing.proofs.Fitting.{fit_less, count_length, data_length, own_length, plan_within}
+use Rattle.filing.proofs.Fitting.{fit_less, count_length, entries_length, data_length, own_length, plan_within}
 use Rattle.filing.proofs.Holding.{node_held, segment_mid}
 
 -- equal marks, pool by pool
@@ -186,7 +186,7 @@ room_one p parcel d span m h f r =
       words = subst (Fit p.words) (sym (count_length (value_at 4 body) (plan_in d).words)) r.words;
       longs = subst (Fit p.longs) (sym (count_length (value_at 8 body) (plan_in d).longs)) r.longs;
       offsets = subst (Fit p.offsets) (sym (count_length (value_at (wide_bytes (plan_in d).wide) body) (plan_in d).offsets)) r.offsets;
-      views = subst (Fit p.views) (sym (count_length (halves_at body) (plan_in d).views)) r.views;
+      views = subst (Fit p.views) (sym (entries_length halves_in 16 (plan_in d).views body)) r.views;
       lists = subst (Fit p.lists) (sym (data_length parcel (plan_in d).list.start m.buffers (plan_in d).list.len)) r.lists;
       buffers = subst (Fit p.buffers) (sym (parts_length (brought_start d m) (brought_by parcel d))) r.buffers;
     }
@@ -248,7 +248,7 @@ filed_one p q parcel d span ready small h f r g =
           (let e = g.words.mark in let l = count_length (value_at 4 body) (plan_in d).words in omega arith)
           (let e = g.longs.mark in let l = count_length (value_at 8 body) (plan_in d).longs in omega arith)
           (let e = g.offsets.mark in let l = count_length (value_at (wide_bytes (plan_in d).wide) body) (plan_in d).offsets in omega arith)
-          (let e = g.views.mark in let l = count_length (halves_at body) (plan_in d).views in omega arith)
+          (let e = g.views.mark in let l = entries_length halves_in 16 (plan_in d).views body in omega arith)
           (let e = g.lists.mark in let l = data_length parcel (plan_in d).list.start p.buffers.mark (plan_in d).list.len in omega arith)
           (let e = g.buffers.mark in let l = parts_length (brought_start d m) (brought_by parcel d) in omega arith);
       columns = g.columns;

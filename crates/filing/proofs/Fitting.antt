@@ -1,5 +1,5 @@
 -- What is added to a pool has room in it.
-use Rattle.std.proofs.Common.{◌≡◌, ℕ, ◌+◌, ◌*◌, ◌≤◌, true, List, ◌++◌, map, length, Some, None, Option, sym, refl, ap, ◌∙◌, subst, ap₂, arith, rules, length-append}
+use Rattle.std.proofs.Common.{◌≡◌, ℕ, ◌+◌, ◌*◌, ◌≤◌, true, List, ◌++◌, map, length, drop, Some, None, Option, sym, refl, ap, ◌∙◌, subst, ap₂, arith, rules, length-append}
 use lib.ListN.{length-map}
 use Rattle.formats.specs.declared.format.Width.TheVariants.{One, Two, Four, Eight}
 use Rattle.formats.specs.declared.kind.Kind.{Kind}
@@ -12,6 +12,7 @@ use Rattle.columns.proofs.Rows.{length_of_slice}
 use Rattle.columns.specs.Sent.{number_of}
 use Rattle.pools.specs.declared.records.Part.{Part}
 use Rattle.pools.specs.declared.pool.Pool.{Pool}
+use Rattle.pools.specs.Laid.{halves_in, entries_in}
 use Rattle.pools.specs.Used.{Fit, Gains}
 use Rattle.parcels.specs.declared.draft.Draft.{Draft}
 use Rattle.parcels.specs.declared.draft.Parts.{Parts}
@@ -27,7 +28,6 @@ use Rattle.columns.specs.Contents.{value_at}
 use Rattle.pools.specs.declared.pools.Pools.{Pools}
 use Rattle.pools.specs.declared.pools.Marks.{Marks}
 use Rattle.pools.specs.declared.records.Node.{Node as Entry}
-use Rattle.filing.proofs.Numbers.{halves_at}
 use Rattle.filing.proofs.Lents.{data_count, parts_length}
 
 pub fit_less : {X : Type 0} {p : Pool X} (n m : ℕ) → m ≤ n → Fit p n → Fit p m
@@ -46,6 +46,9 @@ mask_length parcel (Some p) h = part_length parcel p h
 
 pub count_length : {Y : Type 0} (f : ℕ → Y) (n : ℕ) → length (map f (span 0 n)) ≡ n
 count_length f n = length-map (span 0 n) f ∙ length_span 0 n
+
+pub entries_length : {X : Type 0} (told : List ℕ → X) (size n : ℕ) (bytes : List ℕ) → length (entries_in told size n bytes) ≡ n
+entries_length told size n bytes = count_length (λ (i : ℕ). told (drop (size * i) bytes)) n
 
 pub data_length : (parcel : List ℕ) (at next n : ℕ) → length (map number_of (data_from parcel at next n)) ≡ n
 data_length parcel at next n = length-map (data_from parcel at next n) number_of ∙ data_count parcel at next n
@@ -126,7 +129,7 @@ plan_room p parcel d span m x e r =
       words = fit_count _ _ (count_length (value_at 4 (within parcel d.parts.body)) (plan_in d).words) r.words;
       longs = fit_count _ _ (count_length (value_at 8 (within parcel d.parts.body)) (plan_in d).longs) r.longs;
       offsets = fit_count _ _ (count_length (value_at (wide_bytes (plan_in d).wide) (within parcel d.parts.body)) (plan_in d).offsets) r.offsets;
-      views = fit_count _ _ (count_length (halves_at (within parcel d.parts.body)) (plan_in d).views) r.views;
+      views = fit_count _ _ (entries_length halves_in 16 (plan_in d).views (within parcel d.parts.body)) r.views;
       lists = fit_count _ _ (data_length parcel (plan_in d).list.start m.buffers (plan_in d).list.len) r.lists;
     })
 

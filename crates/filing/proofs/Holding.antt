@@ -45,8 +45,8 @@ use Rattle.filing.specs.Lent.{flat}
 use Rattle.filing.specs.Masks.{mask_len, mask_sent, mask_at}
 use Rattle.filing.specs.Plans.{plan_of, place_in, body_bytes}
 use Rattle.filing.specs.News.{Gained, Filled, MaskFilled, node_news, plan_in, brought_by, plain_start, entry_of}
-use Rattle.filing.proofs.Numbers.{halves_at, views_told}
-use Rattle.filing.proofs.Fitting.{part_length, mask_length, count_length, data_length, plan_within}
+use Rattle.filing.proofs.Numbers.{views_told}
+use Rattle.filing.proofs.Fitting.{part_length, mask_length, count_length, entries_length, data_length, plan_within}
 
 -- a part of what was added
 pub segment_mid : {X : Type 0} {m m1 : ℕ} {xs xs1 : List X} (a b c : List X) → m ≤ length xs → Grown m xs (a ++ (b ++ c)) m1 xs1 → Segment (take m1 xs1) (m + length a) (length b) b
@@ -185,8 +185,8 @@ node_held p q parcel d span ready small h f g =
       offsets = gained_lies p.offsets q.offsets _ (plan_in d).offsets ready.offsets (count_length (value_at (wide_bytes (plan_in d).wide) body) (plan_in d).offsets) g.offsets;
       views =
           subst (λ (v : List theory.View). Segment (views_pool (store q)) p.views.mark n_views v)
-          (views_told body n_views fits.views (bytes_slice parcel d.parts.body.start d.parts.body.len small))
-          (subst (λ (k : ℕ). Segment (views_pool (store q)) p.views.mark k (map view_from (entries_in halves_in 16 n_views body))) (count_length (halves_at body) n_views)
+          (views_told n_views body fits.views (bytes_slice parcel d.parts.body.start d.parts.body.len small))
+          (subst (λ (k : ℕ). Segment (views_pool (store q)) p.views.mark k (map view_from (entries_in halves_in 16 n_views body))) (entries_length halves_in 16 n_views body)
           (views_added (entries_in halves_in 16 n_views body) ready.views.fits g.views));
       lists = gained_lies p.lists q.lists _ (plan_in d).list.len ready.lists (data_length parcel (plan_in d).list.start p.buffers.mark (plan_in d).list.len) g.lists;
     } in

@@ -1,8 +1,9 @@
 -- Entries that lie in a part of a parcel.
-use Rattle.std.proofs.Common.{◌≡◌, ℕ, zero, suc, ◌+◌, ◌*◌, ◌≤◌, List, [], ◌∷◌, ◌++◌, map, length, drop, sym, refl, ap, ◌∙◌, subst, ap₂, add-zero, zero-add, arith}
+use Rattle.std.proofs.Common.{◌≡◌, ℕ, zero, suc, ◌+◌, ◌*◌, ◌<◌, ◌≤◌, List, [], ◌∷◌, ◌++◌, map, length, take, drop, sym, refl, ap, ◌∙◌, subst, subst₂, ap₂, arith, length-append, length-drop}
 use Rattle.std.specs.List.{AllZip, each_same}
-use Rattle.std.proofs.lemmas.List.{map-append, take-take, drop-take}
-use Rattle.columns.specs.Says.{span, slice}
+use Rattle.std.proofs.Math.Nat.{mul-add}
+use Rattle.std.proofs.lemmas.List.{take-take, drop-take, take-append-drop, length-take-le}
+use Rattle.std.proofs.ByRecursion.{All-drop}
 use Rattle.columns.specs.Sound.{little_endian}
 use Rattle.columns.specs.Contents.{view_in, views_in}
 use Rattle.columns.specs.Column.{View}
@@ -10,58 +11,70 @@ use Rattle.columns.specs.Bytes.{view_of_halves}
 use Rattle.columns.specs.Widths.{Bytes}
 use Rattle.columns.proofs.Bytes.{views_read_back}
 use Rattle.columns.proofs.Reading.{bytes_slice}
-use Rattle.columns.proofs.Rows.{length_of_slice}
 use Rattle.pools.specs.declared.records.View.{View as Halves}
-use Rattle.pools.specs.Laid.{halves_in, entries_in}
+use Rattle.pools.specs.declared.pool.Pool.{Pool}
+use Rattle.pools.specs.Laid.{number_in, halves_in, entries_in}
 use Rattle.pools.specs.Held.{view_from}
+use Rattle.pools.specs.Used.{Fit, Gains}
 use Rattle.pools.specs.Grown.{Grown}
-use Rattle.pools.proofs.Growing.{grown_then}
+use Rattle.pools.proofs.Growing.{grown_none, grown_then}
+use Rattle.soundness.proofs.Chunks.{entries_next}
 
-pub span_more : (a n : ℕ) → span a (n + 1) ≡ span a n ++ (a + n) ∷ []
-span_more a zero = ap (λ (k : ℕ). k ∷ []) (sym (add-zero a))
-span_more a (suc n) =
-    let e : span a (suc n + 1) ≡ a ∷ span (suc a) (n + 1) = ap (span a) (let k : suc n + 1 ≡ suc (n + 1) = omega arith in k) in
-    e ∙ ap (λ (l : List ℕ). a ∷ l) (span_more (suc a) n ∙ ap (λ (k : ℕ). span (suc a) n ++ k ∷ []) (let k : suc a + n ≡ a + suc n = omega arith in k))
+-- at a loop over entries: how many are left, and that all are added once they are
+pub record Laying {X Y : Type 0} (R : X → Y → Type 0) (told : List ℕ → X) (size : ℕ) (p q : Pool Y) (all : List X) (left : ℕ) (rest : List ℕ) : Type 0 where
+  pub room : Fit q left
+  pub filled : size * left ≤ length rest
+  pub then : (r : Pool Y) (more : List Y) → AllZip R (entries_in told size left rest) more → Gains q more r → (new : List Y) × AllZip R all new × Gains p new r
 
-pub map_span_more : {Y : Type 0} (f : ℕ → Y) (n : ℕ) → map f (span 0 (n + 1)) ≡ map f (span 0 n) ++ f n ∷ []
-map_span_more {Y} f n = ap (map f) (span_more 0 n) ∙ map-append f (span 0 n) ((0 + n) ∷ []) ∙ ap (λ (k : ℕ). map f (span 0 n) ++ f k ∷ []) (zero-add n)
+pub laying_more : {X Y : Type 0} {R : X → Y → Type 0} {told : List ℕ → X} {size : ℕ} {p q : Pool Y} {all : List X} (n left : ℕ) (rest x after : List ℕ) (y : Y) (r : Pool Y) → left + 1 ≡ n → rest ≡ x ++ after → length x ≡ size
+    → R (told (x ++ after)) y → Gains q (y ∷ []) r → Laying R told size p q all n rest → Laying R told size p r all left after
+laying_more {X} {Y} {R} {told} {size} {p} {q} {all} n left rest x after y r m e l made g s =
+    let here : Laying R told size p q all (suc left) (x ++ after) =
+    subst₂ (λ (k : ℕ) (bytes : List ℕ). Laying R told size p q all k bytes) (let z : n ≡ suc left = omega arith in z) e s in
+    record {
+      room = (let h = here.room.lent in let k = here.room.capped in let a = g.mark in let b = g.len in record { lent = omega arith; capped = omega arith });
+      filled = (let h = here.filled in let k = length-append x after in let z = mul-add size 1 left in omega arith);
+      then = λ t more a h.
+          here.then t (y ∷ more) (subst (λ (xs : List X). AllZip R xs (y ∷ more)) (sym (entries_next told size left x after l)) (made, a)) (grown_then g h);
+    }
 
--- one more on each side
-zip_more : {X Y : Type 0} (R : X → Y → Type 0) (xs : List X) (ys : List Y) (x : X) (y : Y) → AllZip R xs ys → R x y → AllZip R (xs ++ x ∷ []) (ys ++ y ∷ [])
-zip_more R [] [] x y a h = (h, a)
-zip_more R [] (z ∷ ys) x y a h = absurd a
-zip_more R (z ∷ xs) [] x y a h = absurd a
-zip_more R (z ∷ xs) (w ∷ ys) x y a h = (a.0, zip_more R xs ys x y a.1 h)
+pub laying_end : {X Y : Type 0} {R : X → Y → Type 0} {told : List ℕ → X} {size : ℕ} {p q : Pool Y} {all : List X} (n : ℕ) (rest : List ℕ) → (0 < n → length rest < size)
+    → Laying R told size p q all n rest → (new : List Y) × AllZip R all new × Gains p new q
+laying_end {X} {Y} {R} {told} {size} {p} {q} zero rest h s = s.then q [] tt (grown_none _ _)
+laying_end {X} {Y} {R} {told} {size} (suc m) rest h s = absurd (omega (arith, h (omega arith), s.filled, mul-add size 1 m))
 
--- one more at a loop over entries
-pub made_more : {X Y : Type 0} {m m1 m2 : ℕ} {ys ys1 ys2 : List Y} (R : X → Y → Type 0) (f : ℕ → X) (i : ℕ) (new : List Y) (x : X) (y : Y) → x ≡ f i → R x y
-    → AllZip R (map f (span 0 i)) new → Grown m ys new m1 ys1 → Grown m1 ys1 (y ∷ []) m2 ys2
-    → (all : List Y) × AllZip R (map f (span 0 (i + 1))) all × Grown m ys all m2 ys2
-made_more R f i new x y e r a p q = (
-  new ++ y ∷ [],
-  subst (λ xs. AllZip R xs (new ++ y ∷ [])) (sym (map_span_more f i)) (zip_more R (map f (span 0 i)) new (f i) y a (subst (λ z. R z y) e r)),
-  grown_then p q,
-)
+-- What was made of entries that are told by their own bytes alone, each the same as its entry, is the entries.
+pub made_same : {X : Type 0} {m m1 : ℕ} {ys ys1 : List X} (told : List ℕ → X) (size n : ℕ) (bytes : List ℕ) → ((b : List ℕ) → told (take size b) ≡ told b)
+    → (new : List X) × AllZip (λ x y. y ≡ x) (entries_in (λ b. told (take size b)) size n bytes) new × Grown m ys new m1 ys1 → Grown m ys (entries_in told size n bytes) m1 ys1
+made_same {X} {m} {m1} {ys} {ys1} told size n bytes alone h =
+    let same : entries_in (λ b. told (take size b)) size n bytes ≡ entries_in told size n bytes = λ i. entries_in (λ b. alone b i) size n bytes in
+    subst (λ (new : List X). Grown m ys new m1 ys1) (each_same (entries_in (λ b. told (take size b)) size n bytes) h.0 h.1 ∙ same) h.2
 
--- of two lists that are equal place by place, what was added is the one
-pub made_same : {X : Type 0} {m m1 : ℕ} {ys ys1 : List X} (xs : List X) → (new : List X) × AllZip (λ x y. y ≡ x) xs new × Grown m ys new m1 ys1 → Grown m ys xs m1 ys1
-made_same {X} {m} {m1} {ys} {ys1} xs h = subst (λ (new : List X). Grown m ys new m1 ys1) (each_same xs h.0 h.1) h.2
+pub number_alone : (w : ℕ) (b : List ℕ) → number_in w (take w b) ≡ number_in w b
+number_alone w b = ap little_endian (take-take w w b (omega arith))
 
--- a view by its halves
-abbrev pub halves_at : List ℕ → ℕ → Halves
-halves_at bytes i = halves_in (drop (16 * i) bytes)
+pub halves_alone : (b : List ℕ) → halves_in (take 16 b) ≡ halves_in b
+halves_alone b =
+    ap₂ (λ (x y : List ℕ). (let v : Halves = record { low = little_endian x; high = little_endian y } in v)) (take-take 8 16 b (omega arith))
+    (ap (take 8) (drop-take 8 8 b) ∙ take-take 8 8 (drop 8 b) (omega arith))
 
-view_told : (bytes : List ℕ) (i : ℕ) → 16 * i + 16 ≤ length bytes → Bytes bytes → view_from (halves_at bytes i) ≡ view_in (slice bytes (16 * i) 16)
-view_told bytes i h b =
-    let xs : List ℕ = drop (16 * i) bytes in
+-- the first entry, and the others
+entries_split : {X : Type 0} (told : List ℕ → X) (size n : ℕ) (bytes : List ℕ) → size ≤ length bytes → entries_in told size (suc n) bytes ≡ told bytes ∷ entries_in told size n (drop size bytes)
+entries_split {X} told size n bytes h =
+    subst (λ (xs : List ℕ). entries_in told size (suc n) xs ≡ told xs ∷ entries_in told size n (drop size bytes)) (take-append-drop size bytes)
+    (entries_next told size n (take size bytes) (drop size bytes) (length-take-le size bytes h))
+
+-- views by their halves
+view_told : (bytes : List ℕ) → 16 ≤ length bytes → Bytes bytes → view_from (halves_in bytes) ≡ view_in (take 16 bytes)
+view_told bytes h b =
     sym
-    (views_read_back.read (slice bytes (16 * i) 16) (length_of_slice bytes (16 * i) 16 h) (bytes_slice bytes (16 * i) 16 b)
-    ∙ ap₂ (λ (x y : List ℕ). view_of_halves (little_endian x) (little_endian y)) (take-take 8 16 xs (omega arith)) (drop-take 8 8 xs))
+    (views_read_back.read (take 16 bytes) (length-take-le 16 bytes h) (bytes_slice bytes 0 16 b)
+    ∙ ap₂ (λ (x y : List ℕ). view_of_halves (little_endian x) (little_endian y)) (take-take 8 16 bytes (omega arith)) (drop-take 8 8 bytes))
 
-pub views_told : (bytes : List ℕ) (n : ℕ) → 16 * n ≤ length bytes → Bytes bytes → map view_from (entries_in halves_in 16 n bytes) ≡ views_in n bytes
-views_told bytes zero h b = refl
-views_told bytes (suc n) h b =
-    subst (λ (k : ℕ). map view_from (entries_in halves_in 16 k bytes) ≡ views_in k bytes) (let e : n + 1 ≡ suc n = omega arith in e)
-    (ap (map view_from) (map_span_more (halves_at bytes) n) ∙ map-append view_from (entries_in halves_in 16 n bytes) (halves_at bytes n ∷ [])
-    ∙ ap₂ (λ (l : List View) (v : View). l ++ v ∷ []) (views_told bytes n (omega arith) b) (view_told bytes n (omega arith) b)
-    ∙ sym (map_span_more (λ (k : ℕ). view_in (slice bytes (16 * k) 16)) n))
+pub views_told : (n : ℕ) (bytes : List ℕ) → 16 * n ≤ length bytes → Bytes bytes → map view_from (entries_in halves_in 16 n bytes) ≡ views_in n bytes
+views_told zero bytes h b = refl
+views_told (suc n) bytes h b =
+    let some : 16 ≤ length bytes = omega arith in
+    ap (map view_from) (entries_split halves_in 16 n bytes some)
+    ∙ ap₂ (λ (v : View) (l : List View). v ∷ l) (view_told bytes some b) (views_told n (drop 16 bytes) (omega (arith, length-drop 16 bytes)) (All-drop (λ k. k < 256) 16 bytes b))
+    ∙ sym (entries_split (λ (xs : List ℕ). view_in (take 16 xs)) 16 n bytes some)

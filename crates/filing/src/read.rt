@@ -1,5 +1,5 @@
 // Entries as they lie in a buffer, into the pools.
-ghost use Rattle.std.specs.Prelude.{◌≡◌, ◌*◌, ◌≤◌, List, length};
+ghost use Rattle.std.specs.Prelude.{◌≡◌, ◌*◌, ◌<◌, ◌≤◌, List, length, take};
 ghost use Rattle.std.specs.List.{AllZip};
 ghost use Rattle.columns.specs.Contents.{values_in};
 ghost use Rattle.formats.specs.Spelled.{wide_bytes};
@@ -15,14 +15,13 @@ pub(crate) fn put_entries<T: Laid, E: From<T> + Copy>(
     body: &[u8],
     count: usize,
 )
+    requires sized { 0 < T.SIZE }
     requires room { Fit pool.old count }
     requires filled { T.SIZE * count ≤ length body.now }
-    ensures { (new : List _) × AllZip E.from_gives (entries_in T.told T.SIZE count body.now) new × Gains pool.old new pool.new }
+    ensures { (new : List _) × AllZip E.from_gives (entries_in (λ bytes. T.told (take T.SIZE bytes)) T.SIZE count body.now) new × Gains pool.old new pool.new }
 {
-    // Not by chunks: an entry is told by the bytes from its place on, however many they are.
-    for i in 0..count {
-        let entry = T::first_of(&body[T::SIZE * i..]);
-        pool.append(E::from(entry));
+    for entry in body.chunks_exact(T::SIZE).take(count) {
+        pool.append(E::from(T::first_of(entry)));
     }
 }
 

@@ -6,7 +6,7 @@ use Rattle.pools.specs.declared.records.Part.{Part}
 use Rattle.pools.specs.declared.records.Node.{Node as Entry}
 use Rattle.pools.specs.declared.pools.Marks.{Marks}
 use Rattle.pools.specs.declared.pools.Pools.{Pools}
-use Rattle.pools.specs.Laid.{halves_in, entries_in}
+use Rattle.pools.specs.Laid.{number_in, halves_in, entries_in}
 use Rattle.pools.specs.Used.{Gains}
 use Rattle.pools.specs.Marked.{marks_of}
 use Rattle.pools.proofs.Growing.{grown_none, grown_then}
@@ -18,7 +18,7 @@ use Rattle.filing.specs.Lent.{flat, parts_from}
 use Rattle.filing.specs.Masks.{mask_len, mask_sent}
 use Rattle.filing.specs.Plans.{place_in}
 use Rattle.filing.specs.News.{plan_in, brought_by, plain_start, brought_start}
-use Rattle.filing.proofs.Numbers.{made_same}
+use Rattle.filing.proofs.Numbers.{made_same, number_alone, halves_alone}
 use Rattle.filing.proofs.Fitting.{fit_less, fit_next, PlanFits, plan_within, PlanRoom, plan_room, bytes_room, brought_room, own_planned, entry_is}
 use Rattle.filing.proofs.node.put_node.Goals.{After-of-body}
 use Rattle.filing.proofs.node.put_node.Goals as goal
@@ -44,19 +44,19 @@ room : (c : After-of-body) → PlanRoom c.args.pools.now c.plan_for-plan.result
 room c = plan_room c.args.pools.now c.args.parcel.now c.args.draft c.args.span (marks_of c.args.pools.now) c.plan_for-plan.result c.plan_for-plan.ensures c.requires.room
 
 pub put_entries-requires : goal.put_entries-requires
-put_entries-requires c = let b = (goal.at.put_entries-requires c).After-of-body in record { room = (room b).shorts; filled = (fits b).shorts }
+put_entries-requires c = let b = (goal.at.put_entries-requires c).After-of-body in record { sized = omega arith; room = (room b).shorts; filled = (fits b).shorts }
 
 pub put_entries-requires-2 : goal.put_entries-requires-2
-put_entries-requires-2 c = let b = (goal.at.put_entries-requires-2 c).After-of-body in record { room = (room b).words; filled = (fits b).words }
+put_entries-requires-2 c = let b = (goal.at.put_entries-requires-2 c).After-of-body in record { sized = omega arith; room = (room b).words; filled = (fits b).words }
 
 pub put_entries-requires-3 : goal.put_entries-requires-3
-put_entries-requires-3 c = let b = (goal.at.put_entries-requires-3 c).After-of-body in record { room = (room b).longs; filled = (fits b).longs }
+put_entries-requires-3 c = let b = (goal.at.put_entries-requires-3 c).After-of-body in record { sized = omega arith; room = (room b).longs; filled = (fits b).longs }
 
 pub put_offsets-requires : goal.put_offsets-requires
 put_offsets-requires c = let b = (goal.at.put_offsets-requires c).After-of-body in record { room = (room b).offsets; filled = (fits b).offsets }
 
 pub put_entries-requires-4 : goal.put_entries-requires-4
-put_entries-requires-4 c = let b = (goal.at.put_entries-requires-4 c).After-of-body in record { room = (room b).views; filled = (fits b).views }
+put_entries-requires-4 c = let b = (goal.at.put_entries-requires-4 c).After-of-body in record { sized = omega arith; room = (room b).views; filled = (fits b).views }
 
 pub put_numbers-buffers-requires : goal.put_numbers-buffers-requires
 put_numbers-buffers-requires c =
@@ -104,11 +104,11 @@ returns c =
       bytes =
           subst (λ (x : Plan). Gains p.bytes ((within parcel d.head.format ++ (mask_sent parcel d.parts.mask ++ within parcel x.plain)) ++ flat (brought_by parcel d)) c.put_brought.new.bytes) e
           (grown_then c.copy_parts-copied.ensures.added c.put_brought.ensures.bytes);
-      shorts = subst₂ (λ (x : Plan) (b : List ℕ). Gains p.shorts (values_in 2 x.shorts b) c.put_entries.new.pool) e body (made_same _ c.put_entries.ensures);
-      words = subst₂ (λ (x : Plan) (b : List ℕ). Gains p.words (values_in 4 x.words b) c.put_entries-2.new.pool) e body (made_same _ c.put_entries-2.ensures);
-      longs = subst₂ (λ (x : Plan) (b : List ℕ). Gains p.longs (values_in 8 x.longs b) c.put_entries-3.new.pool) e body (made_same _ c.put_entries-3.ensures);
+      shorts = subst₂ (λ (x : Plan) (b : List ℕ). Gains p.shorts (values_in 2 x.shorts b) c.put_entries.new.pool) e body (made_same (number_in 2) 2 _ _ (number_alone 2) c.put_entries.ensures);
+      words = subst₂ (λ (x : Plan) (b : List ℕ). Gains p.words (values_in 4 x.words b) c.put_entries-2.new.pool) e body (made_same (number_in 4) 4 _ _ (number_alone 4) c.put_entries-2.ensures);
+      longs = subst₂ (λ (x : Plan) (b : List ℕ). Gains p.longs (values_in 8 x.longs b) c.put_entries-3.new.pool) e body (made_same (number_in 8) 8 _ _ (number_alone 8) c.put_entries-3.ensures);
       offsets = subst₂ (λ (x : Plan) (b : List ℕ). Gains p.offsets (values_in (wide_bytes x.wide) x.offsets b) c.put_offsets.new.offsets) e body c.put_offsets.ensures;
-      views = subst₂ (λ (x : Plan) (b : List ℕ). Gains p.views (entries_in halves_in 16 x.views b) c.put_entries-4.new.pool) e body (made_same _ c.put_entries-4.ensures);
+      views = subst₂ (λ (x : Plan) (b : List ℕ). Gains p.views (entries_in halves_in 16 x.views b) c.put_entries-4.new.pool) e body (made_same halves_in 16 _ _ halves_alone c.put_entries-4.ensures);
       lists =
           subst₂ (λ (x : Plan) (n : Marks). Gains p.lists (map number_of (data_from parcel x.list.start n.buffers x.list.len)) c.put_numbers-buffers.new.lists) e marks c.put_numbers-buffers.ensures.added;
       buffers =
