@@ -9,13 +9,13 @@ ghost use Rattle.soundness.specs.Ladder.{denial_in};
 ghost use Rattle.admission.specs.Examine.{Stands, Examined};
 
 use crate::accepted::Accepted;
-use crate::entries::Entries;
 use crate::needs::needs;
-use crate::room::full;
 use denials::Denial;
 use parcels::draft::Draft;
 use parcels::node::outline;
+use pools::entries::Entries;
 use pools::records::Part;
+use pools::room::full_pool;
 use soundness::ladder::first_denied;
 use soundness::shelved::Shelved;
 
@@ -42,7 +42,7 @@ pub fn examine(
     let shelved = Shelved { bytes, buffers };
     first_denied(parcel, shelved, drafted)?;
     let needed = needs(parcel, drafted);
-    if let Some(pool) = full(lengths, marks, needed) {
+    if let Some(pool) = full_pool(&lengths, &marks, &needed) {
         return Err(Denial::Full(pool));
     }
     Ok(Accepted {

@@ -1,7 +1,7 @@
 -- Drafts that are stored one after another.
-use Rattle.std.proofs.Common.{◌≡◌, ℕ, suc, ◌+◌, ◌<◌, ◌≤◌, min, List, [], ◌∷◌, ◌++◌, length, get_or, take, drop, sym, refl, ap, ◌∙◌, subst, ap₂, append_assoc, append-nil, add-zero, add_assoc, zero-add, arith, length-append, length-take}
+use Rattle.std.proofs.Common.{◌≡◌, ℕ, suc, ◌+◌, List, [], ◌∷◌, ◌++◌, length, get_or, take, drop, sym, refl, ap, ◌∙◌, subst, subst₂, ap₂, append_assoc, append-nil, add-zero, add_assoc, zero-add, arith, length-append}
 use Rattle.std.specs.List.{AllByRecursion}
-use Rattle.std.proofs.lemmas.List.{drop_at, take_at, map-append, drop_more, take_more, take_all}
+use Rattle.std.proofs.lemmas.List.{drop_at, take_at, map-append}
 use Rattle.std.proofs.ByRecursion.{All-append, All-weaker}
 use Rattle.columns.specs.Says.{slice}
 use Rattle.columns.specs.Column.{Node}
@@ -30,12 +30,12 @@ use Rattle.parcels.specs.Reads.{within}
 use Rattle.parcels.specs.Lent.{data_from}
 use Rattle.parcels.specs.Drafts.{Drafted, node_in}
 use Rattle.filing.specs.Lent.{flat, parts_from}
-use Rattle.filing.specs.Halves.{halves_at}
+use Rattle.pools.specs.Laid.{halves_in}
 use Rattle.filing.specs.News.{News, Room, Gained, Filled, node_news, plan_in, own_bytes, brought_by, brought_start, entry_of}
 use Rattle.filing.specs.Row.{Row}
 use Rattle.filing.specs.Filed.{takes, both, takes_all, nodes_from, brought_all, Fits, Filed}
 use Rattle.filing.proofs.Lents.{parts_length}
-use Rattle.filing.proofs.Fitting.{fit_less, count_length, data_length, own_length, plan_within}
+use Rattle.filing.proofs.Fitting.{fit_less, count_length, entries_length, data_length, own_length, plan_within}
 use Rattle.filing.proofs.Holding.{node_held, segment_mid}
 
 -- equal marks, pool by pool
@@ -174,8 +174,8 @@ filed_then p q r parcel ds es ss ts e a b =
 -- room for one draft, and then for the others
 pub room_one : (p : Pools) (parcel : List ℕ) (d : Draft) (span : ℕ) (m : Marks) → Drafted parcel d → Filled d → Fits p (takes parcel d) → Room p (node_news parcel d span m)
 room_one p parcel d span m h f r =
-    let fits = plan_within parcel d (plan_in d) refl h f.body in
     let body : List ℕ = within parcel d.parts.body in
+    let fits = plan_within parcel d (plan_in d) refl h f.body body refl in
     record {
       columns = r.columns;
       nodes = r.nodes;
@@ -186,7 +186,7 @@ room_one p parcel d span m h f r =
       words = subst (Fit p.words) (sym (count_length (value_at 4 body) (plan_in d).words)) r.words;
       longs = subst (Fit p.longs) (sym (count_length (value_at 8 body) (plan_in d).longs)) r.longs;
       offsets = subst (Fit p.offsets) (sym (count_length (value_at (wide_bytes (plan_in d).wide) body) (plan_in d).offsets)) r.offsets;
-      views = subst (Fit p.views) (sym (count_length (halves_at body) (plan_in d).views)) r.views;
+      views = subst (Fit p.views) (sym (entries_length halves_in 16 (plan_in d).views body)) r.views;
       lists = subst (Fit p.lists) (sym (data_length parcel (plan_in d).list.start m.buffers (plan_in d).list.len)) r.lists;
       buffers = subst (Fit p.buffers) (sym (parts_length (brought_start d m) (brought_by parcel d))) r.buffers;
     }
@@ -227,7 +227,7 @@ unfolding takes_all nodes_from brought_all Row
 filed_one p q parcel d span ready small h f r g =
     let m : Marks = marks_of p in
     let body : List ℕ = within parcel d.parts.body in
-    let fits = plan_within parcel d (plan_in d) refl h f.body in
+    let fits = plan_within parcel d (plan_in d) refl h f.body body refl in
     let own = own_length parcel d h fits.plain in
     let room = room_one p parcel d span m h f r in
     let entry = entry_added (entry_of d span m) no_node ready.nodes.fits g.nodes in
@@ -248,7 +248,7 @@ filed_one p q parcel d span ready small h f r g =
           (let e = g.words.mark in let l = count_length (value_at 4 body) (plan_in d).words in omega arith)
           (let e = g.longs.mark in let l = count_length (value_at 8 body) (plan_in d).longs in omega arith)
           (let e = g.offsets.mark in let l = count_length (value_at (wide_bytes (plan_in d).wide) body) (plan_in d).offsets in omega arith)
-          (let e = g.views.mark in let l = count_length (halves_at body) (plan_in d).views in omega arith)
+          (let e = g.views.mark in let l = entries_length halves_in 16 (plan_in d).views body in omega arith)
           (let e = g.lists.mark in let l = data_length parcel (plan_in d).list.start p.buffers.mark (plan_in d).list.len in omega arith)
           (let e = g.buffers.mark in let l = parts_length (brought_start d m) (brought_by parcel d) in omega arith);
       columns = g.columns;
@@ -267,41 +267,46 @@ one_takes : (parcel : List ℕ) (d : Draft) → takes_all parcel (d ∷ []) ≡ 
 unfolding takes_all
 one_takes parcel d = both_none (takes parcel d)
 
--- at the loop over drafts
-pub record Storing (p q : Pools) (parcel : List ℕ) (ds : List Draft) (sizes : List ℕ) (i : ℕ) : Type 0 where
-  pub filed : Filed p q parcel (take i ds) (take i sizes)
-  pub room : Fits q (takes_all parcel (drop i ds))
+-- at the loop over drafts: what is left, and that the whole is filed once it is
+pub record Storing (p q : Pools) (parcel : List ℕ) (ds : List Draft) (sizes : List ℕ) (rest : List Draft) (left : List ℕ) : Type 0 where
+  pub ready : Ready q
+  pub drafted : AllByRecursion (Drafted parcel) rest
+  pub filled : AllByRecursion Filled rest
+  pub room : Fits q (takes_all parcel rest)
+  pub long : length rest ≡ length left
+  pub then : (r : Pools) → Filed q r parcel rest left → Filed p r parcel ds sizes
 
-pub storing_start : (p : Pools) (parcel : List ℕ) (ds : List Draft) (ss : List ℕ) → Ready p → Fits p (takes_all parcel ds) → Storing p p parcel ds ss 0
-storing_start p parcel ds ss r f = record { filed = filed_none p parcel r; room = f }
+pub storing_start : {p : Pools} {parcel : List ℕ} {ds : List Draft} {ss : List ℕ} → Ready p → AllByRecursion (Drafted parcel) ds → AllByRecursion Filled ds → Fits p (takes_all parcel ds) → length ds ≡ length ss
+    → Storing p p parcel ds ss ds ss
+storing_start r a f h e = record { ready = r; drafted = a; filled = f; room = h; long = e; then = λ q filed. filed }
 
-rest_takes : (parcel : List ℕ) (ds : List Draft) (i : ℕ) (d : Draft) → i < length ds → takes_all parcel (drop i ds) ≡ both (takes parcel (get_or ds i d)) (takes_all parcel (drop (i + 1) ds))
-unfolding takes_all
-rest_takes parcel ds i d h = ap (takes_all parcel) (drop_more ds i d h)
+pub storing_next : {p q : Pools} {parcel : List ℕ} {ds : List Draft} {ss : List ℕ} {before rest : List Draft} {from left : List ℕ} (d : Draft) (size : ℕ) → before ≡ d ∷ rest → from ≡ size ∷ left
+    → Storing p q parcel ds ss before from → Storing p q parcel ds ss (d ∷ rest) (size ∷ left)
+storing_next {p} {q} {parcel} {ds} {ss} d size e f s = subst₂ (λ (xs : List Draft) (ys : List ℕ). Storing p q parcel ds ss xs ys) e f s
 
-module _ (p q : Pools) (parcel : List ℕ) (ds : List Draft) (ss : List ℕ) (i : ℕ) (blank : Draft) (s : Storing p q parcel ds ss i) (h : i < length ds) where
-  pub storing_room : Fits q (takes parcel (get_or ds i blank))
-  storing_room = fits_front q (takes parcel (get_or ds i blank)) (takes_all parcel (drop (i + 1) ds)) (subst (Fits q) (rest_takes parcel ds i blank h) s.room)
+module _ {p q : Pools} {parcel : List ℕ} {ds rest : List Draft} {ss left : List ℕ} (d : Draft) (size : ℕ) (s : Storing p q parcel ds ss (d ∷ rest) (size ∷ left)) where
+  storing_both : Fits q (both (takes parcel d) (takes_all parcel rest))
+  unfolding takes_all
+  storing_both = s.room
 
-  pub storing_ready : Ready q
-  storing_ready = ready_after s.filed.kept
+  storing_fits : Fits q (takes parcel d)
+  storing_fits = fits_front q (takes parcel d) (takes_all parcel rest) storing_both
 
-  pub storing_more : (r : Pools) → length ds ≡ length ss → Bytes parcel → Drafted parcel (get_or ds i blank) → Filled (get_or ds i blank)
-      → Gained q (node_news parcel (get_or ds i blank) (get_or ss i 0) (marks_of q)) r → Storing p r parcel ds ss (i + 1)
-  storing_more r e small k f g =
-      let d : Draft = get_or ds i blank in
-      let one = filed_one q r parcel d (get_or ss i 0) storing_ready small k f storing_room g in
-      let front : length (take i ds) ≡ length (take i ss) = length-take i ds ∙ ap (min i) e ∙ sym (length-take i ss) in
+  pub storing_room : Room q (node_news parcel d size (marks_of q))
+  storing_room = room_one q parcel d size (marks_of q) s.drafted.0 s.filled.0 storing_fits
+
+  pub storing_more : (r : Pools) → Bytes parcel → Gained q (node_news parcel d size (marks_of q)) r → Storing p r parcel ds ss rest left
+  storing_more r small g =
+      let one = filed_one q r parcel d size s.ready small s.drafted.0 s.filled.0 storing_fits g in
       record {
-        filed =
-            subst (λ (l : List ℕ). Filed p r parcel (take (i + 1) ds) l) (sym (take_more ss i 0 (omega arith)))
-            (subst (λ (l : List Draft). Filed p r parcel l (take i ss ++ get_or ss i 0 ∷ [])) (sym (take_more ds i blank h))
-            (filed_then p q r parcel (take i ds) (d ∷ []) (take i ss) (get_or ss i 0 ∷ []) front s.filed one));
-        room =
-            fits_after q r (takes parcel d) (takes_all parcel (drop (i + 1) ds)) one.kept (one.marks ∙ ap (both (marks_of q)) (one_takes parcel d))
-            (subst (Fits q) (rest_takes parcel ds i blank h) s.room);
+        ready = ready_after one.kept;
+        drafted = s.drafted.1;
+        filled = s.filled.1;
+        room = fits_after q r (takes parcel d) (takes_all parcel rest) one.kept (one.marks ∙ ap (both (marks_of q)) (one_takes parcel d)) storing_both;
+        long = (let e = s.long in omega arith);
+        then = λ t filed. s.then t (filed_then q r t parcel (d ∷ []) rest (size ∷ []) left refl one filed);
       }
 
-pub storing_end : (p q : Pools) (parcel : List ℕ) (ds : List Draft) (ss : List ℕ) (i : ℕ) → length ds ≡ length ss → length ds ≤ i → Storing p q parcel ds ss i → Filed p q parcel ds ss
-storing_end p q parcel ds ss i e h s =
-    subst (λ (l : List ℕ). Filed p q parcel ds l) (take_all i ss (omega arith)) (subst (λ (l : List Draft). Filed p q parcel l (take i ss)) (take_all i ds h) s.filed)
+pub storing_end : {p q : Pools} {parcel : List ℕ} {ds : List Draft} {ss : List ℕ} (rest : List Draft) (left : List ℕ) → rest ≡ [] → left ≡ [] → Storing p q parcel ds ss rest left → Filed p q parcel ds ss
+storing_end {p} {q} {parcel} {ds} {ss} rest left e f s =
+    s.then q (subst₂ (λ (xs : List Draft) (ys : List ℕ). Filed q q parcel xs ys) (sym e) (sym f) (filed_none q parcel s.ready))

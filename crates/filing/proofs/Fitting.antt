@@ -1,5 +1,5 @@
 -- What is added to a pool has room in it.
-use Rattle.std.proofs.Common.{◌≡◌, ℕ, ◌+◌, ◌*◌, ◌≤◌, true, List, ◌++◌, map, length, Some, None, Option, sym, refl, ap, ◌∙◌, subst, ap₂, le_refl, arith, length-append}
+use Rattle.std.proofs.Common.{◌≡◌, ℕ, ◌+◌, ◌*◌, ◌≤◌, true, List, ◌++◌, map, length, drop, Some, None, Option, sym, refl, ap, ◌∙◌, subst, ap₂, arith, rules, length-append}
 use lib.ListN.{length-map}
 use Rattle.formats.specs.declared.format.Width.TheVariants.{One, Two, Four, Eight}
 use Rattle.formats.specs.declared.kind.Kind.{Kind}
@@ -8,9 +8,11 @@ use Rattle.formats.specs.declared.kind.Kind.TheVariants.{List as ListOf}
 use Rattle.formats.specs.Spelled.{wide_bytes}
 use Rattle.columns.specs.Says.{span}
 use Rattle.columns.proofs.Gather.{length_span}
+use Rattle.columns.proofs.Rows.{length_of_slice}
 use Rattle.columns.specs.Sent.{number_of}
 use Rattle.pools.specs.declared.records.Part.{Part}
 use Rattle.pools.specs.declared.pool.Pool.{Pool}
+use Rattle.pools.specs.Laid.{halves_in, entries_in}
 use Rattle.pools.specs.Used.{Fit, Gains}
 use Rattle.parcels.specs.declared.draft.Draft.{Draft}
 use Rattle.parcels.specs.declared.draft.Parts.{Parts}
@@ -22,12 +24,10 @@ use Rattle.filing.specs.Lent.{flat}
 use Rattle.filing.specs.Masks.{mask_len, mask_sent}
 use Rattle.filing.specs.Plans.{plan_of, body_bytes}
 use Rattle.filing.specs.News.{Room, node_news, plan_in, own_bytes, brought_by, brought_start}
-use Rattle.filing.specs.Halves.{halves_at}
 use Rattle.columns.specs.Contents.{value_at}
 use Rattle.pools.specs.declared.pools.Pools.{Pools}
 use Rattle.pools.specs.declared.pools.Marks.{Marks}
 use Rattle.pools.specs.declared.records.Node.{Node as Entry}
-use Rattle.filing.proofs.Numbers.{slice_fits}
 use Rattle.filing.proofs.Lents.{data_count, parts_length}
 
 pub fit_less : {X : Type 0} {p : Pool X} (n m : ℕ) → m ≤ n → Fit p n → Fit p m
@@ -38,7 +38,7 @@ fit_next {X} {p} q {new} a b e f g =
     let m = g.mark in let l = g.len in let h = f.lent in let k = f.capped in record { lent = omega arith; capped = omega arith }
 
 pub part_length : (parcel : List ℕ) (p : Part) → Within parcel p → length (within parcel p) ≡ p.len
-part_length parcel p h = slice_fits parcel p.start p.len h
+part_length parcel p h = length_of_slice parcel p.start p.len h
 
 pub mask_length : (parcel : List ℕ) (m : Option Part) → MaskWithin parcel m → length (mask_sent parcel m) ≡ mask_len m
 mask_length parcel None h = refl
@@ -46,6 +46,9 @@ mask_length parcel (Some p) h = part_length parcel p h
 
 pub count_length : {Y : Type 0} (f : ℕ → Y) (n : ℕ) → length (map f (span 0 n)) ≡ n
 count_length f n = length-map (span 0 n) f ∙ length_span 0 n
+
+pub entries_length : {X : Type 0} (told : List ℕ → X) (size n : ℕ) (bytes : List ℕ) → length (entries_in told size n bytes) ≡ n
+entries_length told size n bytes = count_length (λ (i : ℕ). told (drop (size * i) bytes)) n
 
 pub data_length : (parcel : List ℕ) (at next n : ℕ) → length (map number_of (data_from parcel at next n)) ≡ n
 data_length parcel at next n = length-map (data_from parcel at next n) number_of ∙ data_count parcel at next n
@@ -61,57 +64,36 @@ none_brought parcel at n = omega arith
 eq_le : {a b : ℕ} → a ≡ b → a ≤ b
 eq_le {a} {b} e = omega arith
 
--- the parts and counts of a plan lie within what the parcel has
-pub record PlanFits (parcel : List ℕ) (x : Parts) (p : Plan) : Type 0 where
+-- the parts and counts of a plan lie within what the parcel has, and within a body of so many bytes
+pub record PlanFits (parcel : List ℕ) (x : Parts) (size : ℕ) (p : Plan) : Type 0 where
   pub plain : Within parcel p.plain
-  pub shorts : 2 * p.shorts ≤ x.body.len
-  pub words : 4 * p.words ≤ x.body.len
-  pub longs : 8 * p.longs ≤ x.body.len
-  pub offsets : wide_bytes p.wide * p.offsets ≤ x.body.len
-  pub views : 16 * p.views ≤ x.body.len
+  pub shorts : 2 * p.shorts ≤ size
+  pub words : 4 * p.words ≤ size
+  pub longs : 8 * p.longs ≤ size
+  pub offsets : wide_bytes p.wide * p.offsets ≤ size
+  pub views : 16 * p.views ≤ size
   pub list : readable parcel p.list.start p.list.len ≡ true
   pub new : length (brought_from parcel p.list.start p.list.len) ≤ length (brought_from parcel x.lent.start x.lent.len)
 
-plan_fits : (parcel : List ℕ) (k : Kind) (x : Parts) (n : ℕ) → Inside parcel x → readable parcel x.lent.start x.lent.len ≡ true → x.body.len ≡ body_bytes k n → PlanFits parcel x (plan_of k x n)
-plan_fits parcel (Primitive One) x n i r h =
-    let b : Part = x.body in
-    record { plain = i.body; shorts = omega arith; words = omega arith; longs = omega arith; offsets = omega arith; views = omega arith; list = none_readable parcel 0; new = none_brought parcel 0 (length (brought_from parcel x.lent.start x.lent.len)) }
-plan_fits parcel (Primitive Two) x n i r h =
-    let b : Part = x.body in
-    record { plain = omega arith; shorts = (let e : b.len ≡ 2 * n = h in omega arith); words = omega arith; longs = omega arith; offsets = omega arith; views = omega arith; list = none_readable parcel 0; new = none_brought parcel 0 (length (brought_from parcel x.lent.start x.lent.len)) }
-plan_fits parcel (Primitive Four) x n i r h =
-    let b : Part = x.body in
-    record { plain = omega arith; shorts = omega arith; words = (let e : b.len ≡ 4 * n = h in omega arith); longs = omega arith; offsets = omega arith; views = omega arith; list = none_readable parcel 0; new = none_brought parcel 0 (length (brought_from parcel x.lent.start x.lent.len)) }
-plan_fits parcel (Primitive Eight) x n i r h =
-    let b : Part = x.body in
-    record { plain = omega arith; shorts = omega arith; words = omega arith; longs = (let e : b.len ≡ 8 * n = h in omega arith); offsets = omega arith; views = omega arith; list = none_readable parcel 0; new = none_brought parcel 0 (length (brought_from parcel x.lent.start x.lent.len)) }
-plan_fits parcel Boolean x n i r h =
-    let b : Part = x.body in
-    record { plain = i.body; shorts = omega arith; words = omega arith; longs = omega arith; offsets = omega arith; views = omega arith; list = none_readable parcel 0; new = none_brought parcel 0 (length (brought_from parcel x.lent.start x.lent.len)) }
-plan_fits parcel (Text wide) x n i r h =
-    let b : Part = x.body in
-    record { plain = i.text; shorts = omega arith; words = omega arith; longs = omega arith; offsets = eq_le (sym h); views = omega arith; list = none_readable parcel 0; new = none_brought parcel 0 (length (brought_from parcel x.lent.start x.lent.len)) }
-plan_fits parcel View x n i r h =
-    let b : Part = x.body in
-    record { plain = omega arith; shorts = omega arith; words = omega arith; longs = omega arith; offsets = omega arith; views = (let e : b.len ≡ 16 * n = h in omega arith); list = r; new = le_refl _ }
-plan_fits parcel (ListOf wide) x n i r h =
-    let b : Part = x.body in
-    record { plain = omega arith; shorts = omega arith; words = omega arith; longs = omega arith; offsets = eq_le (sym h); views = omega arith; list = none_readable parcel 0; new = none_brought parcel 0 (length (brought_from parcel x.lent.start x.lent.len)) }
-plan_fits parcel Map x n i r h =
-    let b : Part = x.body in
-    record { plain = omega arith; shorts = omega arith; words = omega arith; longs = omega arith; offsets = eq_le (sym h); views = omega arith; list = none_readable parcel 0; new = none_brought parcel 0 (length (brought_from parcel x.lent.start x.lent.len)) }
-plan_fits parcel Struct x n i r h =
-    let b : Part = x.body in
-    record { plain = omega arith; shorts = omega arith; words = omega arith; longs = omega arith; offsets = omega arith; views = omega arith; list = none_readable parcel 0; new = none_brought parcel 0 (length (brought_from parcel x.lent.start x.lent.len)) }
-plan_fits parcel RunEnds x n i r h =
-    let b : Part = x.body in
-    record { plain = omega arith; shorts = omega arith; words = omega arith; longs = omega arith; offsets = omega arith; views = omega arith; list = none_readable parcel 0; new = none_brought parcel 0 (length (brought_from parcel x.lent.start x.lent.len)) }
-plan_fits parcel (FixedList size) x n i r h =
-    let b : Part = x.body in
-    record { plain = omega arith; shorts = omega arith; words = omega arith; longs = omega arith; offsets = omega arith; views = omega arith; list = none_readable parcel 0; new = none_brought parcel 0 (length (brought_from parcel x.lent.start x.lent.len)) }
+plan_fits : (parcel : List ℕ) (k : Kind) (x : Parts) (n : ℕ) → Inside parcel x → readable parcel x.lent.start x.lent.len ≡ true → x.body.len ≡ body_bytes k n → PlanFits parcel x x.body.len (plan_of k x n)
+plan_fits parcel (Primitive One) x n i r h = search (rules, none_readable, none_brought)
+plan_fits parcel (Primitive Two) x n i r h = search (rules, none_readable, none_brought)
+plan_fits parcel (Primitive Four) x n i r h = search (rules, none_readable, none_brought)
+plan_fits parcel (Primitive Eight) x n i r h = search (rules, none_readable, none_brought)
+plan_fits parcel Boolean x n i r h = search (rules, none_readable, none_brought)
+plan_fits parcel (Text wide) x n i r h = search (rules, none_readable, none_brought)
+plan_fits parcel View x n i r h = search (rules, none_readable, none_brought)
+plan_fits parcel (ListOf wide) x n i r h = search (rules, none_readable, none_brought)
+plan_fits parcel Map x n i r h = search (rules, none_readable, none_brought)
+plan_fits parcel Struct x n i r h = search (rules, none_readable, none_brought)
+plan_fits parcel RunEnds x n i r h = search (rules, none_readable, none_brought)
+plan_fits parcel (FixedList size) x n i r h = search (rules, none_readable, none_brought)
 
-pub plan_within : (parcel : List ℕ) (d : Draft) (p : Plan) → p ≡ plan_in d → Drafted parcel d → d.parts.body.len ≡ body_bytes d.kind d.head.rows → PlanFits parcel d.parts p
-plan_within parcel d p e h b = subst (PlanFits parcel d.parts) (sym e) (plan_fits parcel d.kind d.parts d.head.rows h.parts h.lent b)
+pub plan_within : (parcel : List ℕ) (d : Draft) (p : Plan) → p ≡ plan_in d → Drafted parcel d → d.parts.body.len ≡ body_bytes d.kind d.head.rows
+    → (body : List ℕ) → body ≡ within parcel d.parts.body → PlanFits parcel d.parts (length body) p
+plan_within parcel d p e h b body is =
+    subst (λ (n : ℕ). PlanFits parcel d.parts n p) (sym (ap length is ∙ part_length parcel d.parts.body h.parts.body))
+    (subst (PlanFits parcel d.parts d.parts.body.len) (sym e) (plan_fits parcel d.kind d.parts d.head.rows h.parts h.lent b))
 
 -- what is taken of a draft byte by byte
 pub own_length : (parcel : List ℕ) (d : Draft) → Drafted parcel d → Within parcel (plan_in d).plain → length (own_bytes parcel d) ≡ d.head.format.len + (mask_len d.parts.mask + (plan_in d).plain.len)
@@ -147,7 +129,7 @@ plan_room p parcel d span m x e r =
       words = fit_count _ _ (count_length (value_at 4 (within parcel d.parts.body)) (plan_in d).words) r.words;
       longs = fit_count _ _ (count_length (value_at 8 (within parcel d.parts.body)) (plan_in d).longs) r.longs;
       offsets = fit_count _ _ (count_length (value_at (wide_bytes (plan_in d).wide) (within parcel d.parts.body)) (plan_in d).offsets) r.offsets;
-      views = fit_count _ _ (count_length (halves_at (within parcel d.parts.body)) (plan_in d).views) r.views;
+      views = fit_count _ _ (entries_length halves_in 16 (plan_in d).views (within parcel d.parts.body)) r.views;
       lists = fit_count _ _ (data_length parcel (plan_in d).list.start m.buffers (plan_in d).list.len) r.lists;
     })
 

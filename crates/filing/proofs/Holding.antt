@@ -40,13 +40,13 @@ use Rattle.parcels.specs.Reads.{within, Within, MaskWithin, mask_of, sent_of}
 use Rattle.parcels.specs.Lent.{data_from}
 use Rattle.parcels.specs.Drafts.{Drafted, node_in, head_in}
 use Rattle.filing.specs.declared.plan.Plan.{Plan}
-use Rattle.filing.specs.Halves.{halves_at, halves_in}
+use Rattle.pools.specs.Laid.{halves_in, entries_in}
 use Rattle.filing.specs.Lent.{flat}
 use Rattle.filing.specs.Masks.{mask_len, mask_sent, mask_at}
 use Rattle.filing.specs.Plans.{plan_of, place_in, body_bytes}
 use Rattle.filing.specs.News.{Gained, Filled, MaskFilled, node_news, plan_in, brought_by, plain_start, entry_of}
-use Rattle.filing.proofs.Numbers.{views_more}
-use Rattle.filing.proofs.Fitting.{part_length, mask_length, count_length, data_length, plan_within}
+use Rattle.filing.proofs.Numbers.{views_told}
+use Rattle.filing.proofs.Fitting.{part_length, mask_length, count_length, entries_length, data_length, plan_within}
 
 -- a part of what was added
 pub segment_mid : {X : Type 0} {m m1 : ℕ} {xs xs1 : List X} (a b c : List X) → m ≤ length xs → Grown m xs (a ++ (b ++ c)) m1 xs1 → Segment (take m1 xs1) (m + length a) (length b) b
@@ -72,13 +72,6 @@ values_one (suc n) (b ∷ bs) done e =
     ap₂ (λ (l : List ℕ) (k : ℕ). map (value_at 1 l) (span k n)) (sym (append_assoc done (b ∷ []) bs)) (let z : suc (length done) ≡ length (done ++ b ∷ []) = omega (arith, length-append done (b ∷ [])) in z)
     ∙ values_one n bs (done ++ b ∷ []) (omega arith) in
     ap₂ (λ (x : ℕ) (l : List ℕ). x ∷ l) here next
-
--- views by their halves
-views_told : (bytes : List ℕ) (n : ℕ) → 16 * n ≤ length bytes → Bytes bytes → map view_from (halves_in n bytes) ≡ views_in n bytes
-views_told bytes zero h b = refl
-views_told bytes (suc n) h b =
-    subst (λ (k : ℕ). map view_from (halves_in k bytes) ≡ views_in k bytes) (let e : n + 1 ≡ suc n = omega arith in e)
-    (views_more bytes n (omega arith) (bytes_slice bytes (16 * n) 8 b) (bytes_slice bytes (16 * n + 8) 8 b) (views_told bytes n (omega arith) b))
 
 -- a bit for each row
 bits_lie : {bytes : List ℕ} (place len rows : ℕ) (body : List ℕ) → Segment bytes place len body → length body ≡ len → len ≡ bytes_for rows → Bytes body → BitsLie bytes place rows (bits_in rows body) (spare_in rows body)
@@ -159,8 +152,8 @@ gained_lies {X} p q new n s e g = subst (λ (k : ℕ). Segment (used q) p.mark k
 pub node_held : (p q : Pools) (parcel : List ℕ) (d : Draft) (span : ℕ) → Ready p → Bytes parcel → Drafted parcel d → Filled d → Gained p (node_news parcel d span (marks_of p)) q
     → Held (store q) (entry_of d span (marks_of p)) (node_in parcel d (data_from parcel d.parts.lent.start p.buffers.mark d.parts.lent.len)) d.head.children span
 node_held p q parcel d span ready small h f g =
-    let fits = plan_within parcel d (plan_in d) refl h f.body in
     let body : List ℕ = within parcel d.parts.body in
+    let fits = plan_within parcel d (plan_in d) refl h f.body body refl in
     let m : Marks = marks_of p in
     let F : List ℕ = within parcel d.head.format in
     let M : List ℕ = mask_sent parcel d.parts.mask in
@@ -192,9 +185,9 @@ node_held p q parcel d span ready small h f g =
       offsets = gained_lies p.offsets q.offsets _ (plan_in d).offsets ready.offsets (count_length (value_at (wide_bytes (plan_in d).wide) body) (plan_in d).offsets) g.offsets;
       views =
           subst (λ (v : List theory.View). Segment (views_pool (store q)) p.views.mark n_views v)
-          (views_told body n_views (let l = fits.views in let e = part_length parcel d.parts.body h.parts.body in omega arith) (bytes_slice parcel d.parts.body.start d.parts.body.len small))
-          (subst (λ (k : ℕ). Segment (views_pool (store q)) p.views.mark k (map view_from (halves_in n_views body))) (count_length (halves_at body) n_views)
-          (views_added (halves_in n_views body) ready.views.fits g.views));
+          (views_told n_views body fits.views (bytes_slice parcel d.parts.body.start d.parts.body.len small))
+          (subst (λ (k : ℕ). Segment (views_pool (store q)) p.views.mark k (map view_from (entries_in halves_in 16 n_views body))) (entries_length halves_in 16 n_views body)
+          (views_added (entries_in halves_in 16 n_views body) ready.views.fits g.views));
       lists = gained_lies p.lists q.lists _ (plan_in d).list.len ready.lists (data_length parcel (plan_in d).list.start p.buffers.mark (plan_in d).list.len) g.lists;
     } in
     record {

@@ -1,107 +1,80 @@
--- Numbers that lie in a part of a parcel.
-use Rattle.std.proofs.Common.{◌≡◌, ℕ, zero, suc, ◌+◌, ◌-◌, ◌*◌, ◌<◌, ◌≤◌, min, List, [], ◌∷◌, ◌++◌, map, length, get_or, take, drop, sym, ap, ◌∙◌, subst, ap₂, add-zero, zero-add, arith, length-drop, length-take}
-use Rattle.std.proofs.lemmas.List.{map-append, drop_more, drop-drop, take-take, drop-take, take-append-drop}
-use Rattle.std.proofs.ByRecursion.{All-append}
-use Rattle.columns.specs.Says.{span, slice}
+-- Entries that lie in a part of a parcel.
+use Rattle.std.proofs.Common.{◌≡◌, ℕ, zero, suc, ◌+◌, ◌*◌, ◌<◌, ◌≤◌, List, [], ◌∷◌, ◌++◌, map, length, take, drop, sym, refl, ap, ◌∙◌, subst, subst₂, ap₂, arith, length-append, length-drop}
+use Rattle.std.specs.List.{AllZip, each_same}
+use Rattle.std.proofs.Math.Nat.{mul-add}
+use Rattle.std.proofs.lemmas.List.{take-take, drop-take, take-append-drop, length-take-le}
+use Rattle.std.proofs.ByRecursion.{All-drop}
 use Rattle.columns.specs.Sound.{little_endian}
-use Rattle.columns.specs.Contents.{value_at, view_in, views_in}
+use Rattle.columns.specs.Contents.{view_in, views_in}
 use Rattle.columns.specs.Column.{View}
 use Rattle.columns.specs.Bytes.{view_of_halves}
-use Rattle.columns.proofs.Bytes.{views_read_back}
-use Rattle.pools.specs.Held.{view_from}
-use Rattle.filing.specs.Halves.{halves_at, halves_in}
 use Rattle.columns.specs.Widths.{Bytes}
+use Rattle.columns.proofs.Bytes.{views_read_back}
+use Rattle.columns.proofs.Reading.{bytes_slice}
+use Rattle.pools.specs.declared.records.View.{View as Halves}
+use Rattle.pools.specs.declared.pool.Pool.{Pool}
+use Rattle.pools.specs.Laid.{number_in, halves_in, entries_in}
+use Rattle.pools.specs.Held.{view_from}
+use Rattle.pools.specs.Used.{Fit, Gains}
 use Rattle.pools.specs.Grown.{Grown}
-use Rattle.pools.proofs.Growing.{grown_then}
+use Rattle.pools.proofs.Growing.{grown_none, grown_then}
+use Rattle.soundness.proofs.Chunks.{entries_next}
 
-pub span_more : (a n : ℕ) → span a (n + 1) ≡ span a n ++ (a + n) ∷ []
-span_more a zero = ap (λ (k : ℕ). k ∷ []) (sym (add-zero a))
-span_more a (suc n) =
-    let e : span a (suc n + 1) ≡ a ∷ span (suc a) (n + 1) = ap (span a) (let k : suc n + 1 ≡ suc (n + 1) = omega arith in k) in
-    e ∙ ap (λ (l : List ℕ). a ∷ l) (span_more (suc a) n ∙ ap (λ (k : ℕ). span (suc a) n ++ k ∷ []) (let k : suc a + n ≡ a + suc n = omega arith in k))
+-- at a loop over entries: how many are left, and that all are added once they are
+pub record Laying {X Y : Type 0} (R : X → Y → Type 0) (told : List ℕ → X) (size : ℕ) (p q : Pool Y) (all : List X) (left : ℕ) (rest : List ℕ) : Type 0 where
+  pub room : Fit q left
+  pub filled : size * left ≤ length rest
+  pub then : (r : Pool Y) (more : List Y) → AllZip R (entries_in told size left rest) more → Gains q more r → (new : List Y) × AllZip R all new × Gains p new r
 
-pub map_span_more : {Y : Type 0} (f : ℕ → Y) (n : ℕ) → map f (span 0 (n + 1)) ≡ map f (span 0 n) ++ f n ∷ []
-map_span_more {Y} f n = ap (map f) (span_more 0 n) ∙ map-append f (span 0 n) ((0 + n) ∷ []) ∙ ap (λ (k : ℕ). map f (span 0 n) ++ f k ∷ []) (zero-add n)
+pub laying_more : {X Y : Type 0} {R : X → Y → Type 0} {told : List ℕ → X} {size : ℕ} {p q : Pool Y} {all : List X} (n left : ℕ) (rest x after : List ℕ) (y : Y) (r : Pool Y) → left + 1 ≡ n → rest ≡ x ++ after → length x ≡ size
+    → R (told (x ++ after)) y → Gains q (y ∷ []) r → Laying R told size p q all n rest → Laying R told size p r all left after
+laying_more {X} {Y} {R} {told} {size} {p} {q} {all} n left rest x after y r m e l made g s =
+    let here : Laying R told size p q all (suc left) (x ++ after) =
+    subst₂ (λ (k : ℕ) (bytes : List ℕ). Laying R told size p q all k bytes) (let z : n ≡ suc left = omega arith in z) e s in
+    record {
+      room = (let h = here.room.lent in let k = here.room.capped in let a = g.mark in let b = g.len in record { lent = omega arith; capped = omega arith });
+      filled = (let h = here.filled in let k = length-append x after in let z = mul-add size 1 left in omega arith);
+      then = λ t more a h.
+          here.then t (y ∷ more) (subst (λ (xs : List X). AllZip R xs (y ∷ more)) (sym (entries_next told size left x after l)) (made, a)) (grown_then g h);
+    }
 
--- one more at a loop over numbers
-pub grown_span : {Y : Type 0} {m m1 m2 : ℕ} {xs xs1 xs2 : List Y} (f : ℕ → Y) (i : ℕ) (y : Y) → y ≡ f i
-    → Grown m xs (map f (span 0 i)) m1 xs1 → Grown m1 xs1 (y ∷ []) m2 xs2 → Grown m xs (map f (span 0 (i + 1))) m2 xs2
-grown_span {Y} {m} {m1} {m2} {xs} {xs1} {xs2} f i y e p q =
-    subst (λ (new : List Y). Grown m xs new m2 xs2) (ap (λ (z : Y). map f (span 0 i) ++ z ∷ []) e ∙ sym (map_span_more f i)) (grown_then p q)
+pub laying_end : {X Y : Type 0} {R : X → Y → Type 0} {told : List ℕ → X} {size : ℕ} {p q : Pool Y} {all : List X} (n : ℕ) (rest : List ℕ) → (0 < n → length rest < size)
+    → Laying R told size p q all n rest → (new : List Y) × AllZip R all new × Gains p new q
+laying_end {X} {Y} {R} {told} {size} {p} {q} zero rest h s = s.then q [] tt (grown_none _ _)
+laying_end {X} {Y} {R} {told} {size} (suc m) rest h s = absurd (omega (arith, h (omega arith), s.filled, mul-add size 1 m))
 
--- a part of a part
-pub slice_slice : {X : Type 0} (xs : List X) (a n b m : ℕ) → b + m ≤ n → slice (slice xs a n) b m ≡ slice xs (a + b) m
-slice_slice {X} xs a n b m h =
-    let split : n ≡ b + (n - b) = omega arith in
-    ap (λ (k : ℕ). take m (drop b (take k (drop a xs)))) split ∙ ap (take m) (drop-take b (n - b) (drop a xs))
-    ∙ take-take m (n - b) (drop b (drop a xs)) (omega arith) ∙ ap (take m) (drop-drop b a xs)
+-- What was made of entries that are told by their own bytes alone, each the same as its entry, is the entries.
+pub made_same : {X : Type 0} {m m1 : ℕ} {ys ys1 : List X} (told : List ℕ → X) (size n : ℕ) (bytes : List ℕ) → ((b : List ℕ) → told (take size b) ≡ told b)
+    → (new : List X) × AllZip (λ x y. y ≡ x) (entries_in (λ b. told (take size b)) size n bytes) new × Grown m ys new m1 ys1 → Grown m ys (entries_in told size n bytes) m1 ys1
+made_same {X} {m} {m1} {ys} {ys1} told size n bytes alone h =
+    let same : entries_in (λ b. told (take size b)) size n bytes ≡ entries_in told size n bytes = λ i. entries_in (λ b. alone b i) size n bytes in
+    subst (λ (new : List X). Grown m ys new m1 ys1) (each_same (entries_in (λ b. told (take size b)) size n bytes) h.0 h.1 ∙ same) h.2
 
-pub value_in : (xs : List ℕ) (a n w i : ℕ) → w * i + w ≤ n → little_endian (slice xs (a + w * i) w) ≡ value_at w (slice xs a n) i
-value_in xs a n w i h = ap little_endian (sym (slice_slice xs a n (w * i) w h))
+pub number_alone : (w : ℕ) (b : List ℕ) → number_in w (take w b) ≡ number_in w b
+number_alone w b = ap little_endian (take-take w w b (omega arith))
 
--- a slice by its first entry
-pub slice_first : {X : Type 0} (xs : List X) (at n : ℕ) (d : X) → at < length xs → slice xs at (suc n) ≡ get_or xs at d ∷ slice xs (at + 1) n
-slice_first xs at n d h = ap (take (suc n)) (drop_more xs at d h)
+pub halves_alone : (b : List ℕ) → halves_in (take 16 b) ≡ halves_in b
+halves_alone b =
+    ap₂ (λ (x y : List ℕ). (let v : Halves = record { low = little_endian x; high = little_endian y } in v)) (take-take 8 16 b (omega arith))
+    (ap (take 8) (drop-take 8 8 b) ∙ take-take 8 8 (drop 8 b) (omega arith))
 
-pub slice_two : (xs : List ℕ) (at : ℕ) → at + 2 ≤ length xs → slice xs at 2 ≡ get_or xs at 0 ∷ get_or xs (at + 1) 0 ∷ []
-slice_two xs at h =
-    slice_first xs at 1 0 (omega arith) ∙ ap (λ (l : List ℕ). get_or xs at 0 ∷ l) (slice_first xs (at + 1) 0 0 (omega arith))
+-- the first entry, and the others
+entries_split : {X : Type 0} (told : List ℕ → X) (size n : ℕ) (bytes : List ℕ) → size ≤ length bytes → entries_in told size (suc n) bytes ≡ told bytes ∷ entries_in told size n (drop size bytes)
+entries_split {X} told size n bytes h =
+    subst (λ (xs : List ℕ). entries_in told size (suc n) xs ≡ told xs ∷ entries_in told size n (drop size bytes)) (take-append-drop size bytes)
+    (entries_next told size n (take size bytes) (drop size bytes) (length-take-le size bytes h))
 
-pub slice_four : (xs : List ℕ) (at : ℕ) → at + 4 ≤ length xs
-    → slice xs at 4 ≡ get_or xs at 0 ∷ get_or xs (at + 1) 0 ∷ get_or xs (at + 2) 0 ∷ get_or xs (at + 3) 0 ∷ []
-slice_four xs at h =
-    let two : slice xs (at + 2) 2 ≡ get_or xs (at + 2) 0 ∷ get_or xs (at + 3) 0 ∷ [] =
-    slice_two xs (at + 2) (omega arith) ∙ ap (λ (k : ℕ). get_or xs (at + 2) 0 ∷ get_or xs k 0 ∷ []) (let e : at + 2 + 1 ≡ at + 3 = omega arith in e) in
-    let next : at + 1 + 1 ≡ at + 2 = omega arith in
-    slice_first xs at 3 0 (omega arith)
-    ∙ ap (λ (l : List ℕ). get_or xs at 0 ∷ l) (slice_first xs (at + 1) 2 0 (omega arith) ∙ ap (λ (k : ℕ). get_or xs (at + 1) 0 ∷ slice xs k 2) next ∙ ap (λ (l : List ℕ). get_or xs (at + 1) 0 ∷ l) two)
-
-pub slice_eight : (xs : List ℕ) (at : ℕ) → at + 8 ≤ length xs → slice xs at 8 ≡ slice xs at 4 ++ slice xs (at + 4) 4
-slice_eight xs at h =
-    let one : (k n : ℕ) → k < length xs → slice xs k (suc n) ≡ get_or xs k 0 ∷ slice xs (k + 1) n = λ k n l. slice_first xs k n 0 l in
-    let a : at + 1 + 1 ≡ at + 2 = omega arith in
-    let b : at + 2 + 1 ≡ at + 3 = omega arith in
-    let c : at + 3 + 1 ≡ at + 4 = omega arith in
-    one at 7 (omega arith)
-    ∙ ap (λ (l : List ℕ). get_or xs at 0 ∷ l) (one (at + 1) 6 (omega arith) ∙ ap (λ (k : ℕ). get_or xs (at + 1) 0 ∷ slice xs k 6) a
-    ∙ ap (λ (l : List ℕ). get_or xs (at + 1) 0 ∷ l) (one (at + 2) 5 (omega arith) ∙ ap (λ (k : ℕ). get_or xs (at + 2) 0 ∷ slice xs k 5) b
-    ∙ ap (λ (l : List ℕ). get_or xs (at + 2) 0 ∷ l) (one (at + 3) 4 (omega arith) ∙ ap (λ (k : ℕ). get_or xs (at + 3) 0 ∷ slice xs k 4) c)))
-    ∙ ap (λ (l : List ℕ). l ++ slice xs (at + 4) 4) (sym (slice_four xs at (omega arith)))
-
--- a loop over numbers, at its end
-pub grown_count : {Y : Type 0} {m m1 : ℕ} {xs xs1 : List Y} (f : ℕ → Y) (i n : ℕ) → n ≤ i → i ≤ n → Grown m xs (map f (span 0 i)) m1 xs1 → Grown m xs (map f (span 0 n)) m1 xs1
-grown_count {Y} {m} {m1} {xs} {xs1} f i n h k g = subst (λ (j : ℕ). Grown m xs (map f (span 0 j)) m1 xs1) (let e : i ≡ n = omega arith in e) g
-
--- a view by its halves
-half_low : (bytes : List ℕ) (a : ℕ) → take 8 (slice bytes a 16) ≡ slice bytes a 8
-half_low bytes a = take-take 8 16 (drop a bytes) (omega arith)
-
-half_high : (bytes : List ℕ) (a : ℕ) → drop 8 (slice bytes a 16) ≡ slice bytes (a + 8) 8
-half_high bytes a = drop-take 8 8 (drop a bytes) ∙ ap (take 8) (drop-drop 8 a bytes)
-
-sixteen : (bytes : List ℕ) (a : ℕ) → slice bytes a 16 ≡ slice bytes a 8 ++ slice bytes (a + 8) 8
-sixteen bytes a = sym (take-append-drop 8 (slice bytes a 16)) ∙ ap₂ (λ (x y : List ℕ). x ++ y) (half_low bytes a) (half_high bytes a)
-
-view_told : (bytes : List ℕ) (i : ℕ) → 16 * i + 16 ≤ length bytes → Bytes (slice bytes (16 * i) 8) → Bytes (slice bytes (16 * i + 8) 8)
-    → view_from (halves_at bytes i) ≡ view_in (slice bytes (16 * i) 16)
-view_told bytes i h p q =
-    let all : Bytes (slice bytes (16 * i) 16) = subst Bytes (sym (sixteen bytes (16 * i))) (All-append (λ (k : ℕ). k < 256) (slice bytes (16 * i) 8) (slice bytes (16 * i + 8) 8) p q) in
+-- views by their halves
+view_told : (bytes : List ℕ) → 16 ≤ length bytes → Bytes bytes → view_from (halves_in bytes) ≡ view_in (take 16 bytes)
+view_told bytes h b =
     sym
-    (views_read_back.read (slice bytes (16 * i) 16) (length-take 16 (drop (16 * i) bytes) ∙ (let e = length-drop (16 * i) bytes in let z : min 16 (length (drop (16 * i) bytes)) ≡ 16 = omega arith in z)) all
-    ∙ ap₂ (λ (x y : List ℕ). view_of_halves (little_endian x) (little_endian y)) (half_low bytes (16 * i)) (half_high bytes (16 * i)))
+    (views_read_back.read (take 16 bytes) (length-take-le 16 bytes h) (bytes_slice bytes 0 16 b)
+    ∙ ap₂ (λ (x y : List ℕ). view_of_halves (little_endian x) (little_endian y)) (take-take 8 16 bytes (omega arith)) (drop-take 8 8 bytes))
 
--- one more view told
-pub views_more : (bytes : List ℕ) (i : ℕ) → 16 * i + 16 ≤ length bytes → Bytes (slice bytes (16 * i) 8) → Bytes (slice bytes (16 * i + 8) 8)
-    → map view_from (halves_in i bytes) ≡ views_in i bytes → map view_from (halves_in (i + 1) bytes) ≡ views_in (i + 1) bytes
-views_more bytes i h p q e =
-    ap (map view_from) (map_span_more (halves_at bytes) i) ∙ map-append view_from (halves_in i bytes) (halves_at bytes i ∷ [])
-    ∙ ap₂ (λ (l : List View) (v : View). l ++ v ∷ []) e (view_told bytes i h p q) ∙ sym (map_span_more (λ (k : ℕ). view_in (slice bytes (16 * k) 16)) i)
-
-pub half_read : (xs : List ℕ) (a n i : ℕ) → 16 * i + 16 ≤ n → slice xs (a + 16 * i) 8 ≡ slice (slice xs a n) (16 * i) 8
-half_read xs a n i h = sym (slice_slice xs a n (16 * i) 8 (omega arith))
-
-pub high_read : (xs : List ℕ) (a n i : ℕ) → 16 * i + 16 ≤ n → slice xs (a + 16 * i + 8) 8 ≡ slice (slice xs a n) (16 * i + 8) 8
-high_read xs a n i h = ap (λ (k : ℕ). slice xs k 8) (let e : a + 16 * i + 8 ≡ a + (16 * i + 8) = omega arith in e) ∙ sym (slice_slice xs a n (16 * i + 8) 8 (omega arith))
-
-pub slice_fits : {X : Type 0} (xs : List X) (a n : ℕ) → a + n ≤ length xs → length (slice xs a n) ≡ n
-slice_fits xs a n h = length-take n (drop a xs) ∙ (let e = length-drop a xs in let z : min n (length (drop a xs)) ≡ n = omega arith in z)
+pub views_told : (n : ℕ) (bytes : List ℕ) → 16 * n ≤ length bytes → Bytes bytes → map view_from (entries_in halves_in 16 n bytes) ≡ views_in n bytes
+views_told zero bytes h b = refl
+views_told (suc n) bytes h b =
+    let some : 16 ≤ length bytes = omega arith in
+    ap (map view_from) (entries_split halves_in 16 n bytes some)
+    ∙ ap₂ (λ (v : View) (l : List View). v ∷ l) (view_told bytes some b) (views_told n (drop 16 bytes) (omega (arith, length-drop 16 bytes)) (All-drop (λ k. k < 256) 16 bytes b))
+    ∙ sym (entries_split (λ (xs : List ℕ). view_in (take 16 xs)) 16 n bytes some)

@@ -1,4 +1,3 @@
-pub mod Halves
 pub mod Lent
 pub mod Row
 pub mod Masks

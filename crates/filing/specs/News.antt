@@ -15,7 +15,7 @@ use Rattle.parcels.specs.declared.draft.Draft.{Draft}
 use Rattle.parcels.specs.Reads.{within}
 use Rattle.parcels.specs.Lent.{data_from, brought_from}
 use Rattle.filing.specs.declared.plan.Plan.{Plan}
-use Rattle.filing.specs.Halves.{halves_in}
+use Rattle.pools.specs.Laid.{halves_in, entries_in}
 use Rattle.filing.specs.Lent.{flat, parts_from}
 use Rattle.filing.specs.Masks.{mask_len, mask_sent, mask_at}
 use Rattle.filing.specs.Plans.{plan_of, place_in, body_bytes}
@@ -110,7 +110,7 @@ node_news parcel d span m =
       words = values_in 4 (plan_in d).words (within parcel d.parts.body);
       longs = values_in 8 (plan_in d).longs (within parcel d.parts.body);
       offsets = values_in (wide_bytes (plan_in d).wide) (plan_in d).offsets (within parcel d.parts.body);
-      views = halves_in (plan_in d).views (within parcel d.parts.body);
+      views = entries_in halves_in 16 (plan_in d).views (within parcel d.parts.body);
       lists = map number_of (data_from parcel (plan_in d).list.start m.buffers (plan_in d).list.len);
       buffers = parts_from (brought_start d m) (brought_by parcel d);
     }

@@ -19,7 +19,7 @@ pub(crate) fn put_nodes(pools: &mut Pools<'_>, parcel: &[u8], drafts: &[Draft], 
     requires spans { length drafts.now ≡ length spans.now }
     ensures { Filed pools.old pools.new parcel.now drafts.now spans.now }
 {
-    for i in 0..drafts.len() {
-        put_node(pools, parcel, drafts[i], spans[i]);
+    for (draft, span) in drafts.iter().zip(spans) {
+        put_node(pools, parcel, *draft, *span);
     }
 }

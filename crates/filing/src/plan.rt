@@ -10,7 +10,7 @@ use pools::records::Part;
 
 // The part that is taken byte by byte, the entries that the body takes of each pool, whether its offsets are of eight
 // bytes, and the data buffers that are listed.
-#[derive(Clone, Copy)]
+#[derive(Clone, Copy, Default)]
 pub struct Plan {
     pub plain: Part,
     pub shorts: usize,
@@ -26,18 +26,9 @@ pub(crate) fn plan_for(kind: Kind, parts: Parts, rows: usize) -> Plan
     requires { rows < 4294967296 }
     ensures { result ≡ plan_of kind parts rows }
 {
-    let none = Plan {
-        plain: Part { start: 0, len: 0 },
-        shorts: 0,
-        words: 0,
-        longs: 0,
-        offsets: 0,
-        wide: false,
-        views: 0,
-        list: Part { start: 0, len: 0 },
-    };
+    let none = Plan::default();
     match kind {
-        Kind::Primitive(Width::One) => Plan {
+        Kind::Primitive(Width::One) | Kind::Boolean => Plan {
             plain: parts.body,
             ..none
         },
@@ -51,10 +42,6 @@ pub(crate) fn plan_for(kind: Kind, parts: Parts, rows: usize) -> Plan
         },
         Kind::Primitive(Width::Eight) => Plan {
             longs: rows,
-            ..none
-        },
-        Kind::Boolean => Plan {
-            plain: parts.body,
             ..none
         },
         Kind::Text { wide } => Plan {
@@ -77,9 +64,7 @@ pub(crate) fn plan_for(kind: Kind, parts: Parts, rows: usize) -> Plan
             offsets: rows + 1,
             ..none
         },
-        Kind::Struct => none,
-        Kind::RunEnds => none,
-        Kind::FixedList(_) => none,
+        Kind::Struct | Kind::RunEnds | Kind::FixedList(_) => none,
     }
 }
 
@@ -89,17 +74,12 @@ pub fn place_for(kind: Kind, plain: usize, marks: Marks) -> usize
     ensures { result ≡ place_in kind plain marks }
 {
     match kind {
-        Kind::Primitive(Width::One) => plain,
+        Kind::Primitive(Width::One) | Kind::Boolean => plain,
         Kind::Primitive(Width::Two) => marks.shorts,
         Kind::Primitive(Width::Four) => marks.words,
         Kind::Primitive(Width::Eight) => marks.longs,
-        Kind::Boolean => plain,
-        Kind::Text { .. } => marks.offsets,
+        Kind::Text { .. } | Kind::List { .. } | Kind::Map => marks.offsets,
         Kind::View => marks.views,
-        Kind::List { .. } => marks.offsets,
-        Kind::Map => marks.offsets,
-        Kind::Struct => 0,
-        Kind::RunEnds => 0,
-        Kind::FixedList(_) => 0,
+        Kind::Struct | Kind::RunEnds | Kind::FixedList(_) => 0,
     }
 }

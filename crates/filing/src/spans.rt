@@ -1,16 +1,10 @@
 // How many nodes each node has with all below it.
-ghost use Rattle.std.specs.Prelude.{◌≡◌, ℕ, ◌+◌, ◌≤◌, map, length, drop, slice_index};
+ghost use Rattle.std.specs.Prelude.{◌≡◌, ℕ, ◌+◌, ◌≤◌, map, length, drop};
 ghost use Rattle.std.specs.List.{AllByRecursion};
 ghost use Rattle.filing.specs.Row.{spanned, spans_of};
 ghost use Rattle.filing.specs.Counts.{children_in};
 
 use parcels::draft::Draft;
-
-fn size_at(spans: &[u16], at: usize) -> u16
-    ensures { result ≡ slice_index spans.now at }
-{
-    if at < spans.len() { spans[at] } else { 0 }
-}
 
 // The size of the node at a place that has so many children: 1, and what its children have.
 fn span_at(spans: &[u16], at: usize, children: u8) -> u16
@@ -20,7 +14,8 @@ fn span_at(spans: &[u16], at: usize, children: u8) -> u16
 {
     let mut span = 1u16;
     for _k in 0..children {
-        span += size_at(spans, at + span as usize);
+        let child = spans.get(at + usize::from(span));
+        span += child.copied().unwrap_or(0);
     }
     span
 }
@@ -32,10 +27,7 @@ pub(crate) fn fill_spans(spans: &mut [u16], drafts: &[Draft])
     requires few { AllByRecursion (λ (s : ℕ). s ≤ 256) (spans_of (map children_in drafts.now)) }
     ensures { spans.new ≡ spans_of (map children_in drafts.now) }
 {
-    let mut i = drafts.len();
-    while i > 0 {
-        i -= 1;
-        let span = span_at(spans, i, drafts[i].head.children);
-        spans[i] = span;
+    for i in (0..drafts.len()).rev() {
+        spans[i] = span_at(spans, i, drafts[i].head.children);
     }
 }

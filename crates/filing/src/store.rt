@@ -16,25 +16,6 @@ use parcels::draft::Draft;
 use pools::pools::Pools;
 use pools::records::ColumnEntry;
 
-// The same as `store`, with a table lent for the sizes of the subtrees.
-fn store_by(pools: &mut Pools<'_>, parcel: &[u8], drafts: &[Draft], table: &mut [u16])
-    requires ready { Ready pools.old }
-    requires drafted { AllByRecursion (Drafted parcel.now) drafts.now }
-    requires few { length drafts.now ≤ 256 }
-    requires accepted { ∥ ((s : Shelf) × (slip : ℕ) × Accepted pools.old slip s parcel.now drafts.now) ∥₁ }
-    requires table { length drafts.now ≤ length table.old }
-    ensures kept { Kept pools.old pools.new }
-    ensures entry { Gains pools.old.columns (record { root = pools.old.nodes.mark } ∷ []) pools.new.columns }
-    ensures shown { (s : Shelf) (slip : ℕ) → Accepted pools.old slip s parcel.now drafts.now → Shows (store_of pools.new) (filed_on s (parcel_read s.buffers parcel.now)) }
-{
-    let count = drafts.len();
-    let spans = &mut table[0..count];
-    fill_spans(spans, drafts);
-    let root = pools.nodes.mark;
-    pools.columns.append(ColumnEntry { root });
-    put_nodes(pools, parcel, drafts, spans);
-}
-
 // Adds the column that the drafts tell, with all that it holds: the pools then show the shelf with the parcel filed.
 pub fn store(pools: &mut Pools<'_>, parcel: &[u8], drafts: &[Draft])
     requires ready { Ready pools.old }
@@ -45,6 +26,10 @@ pub fn store(pools: &mut Pools<'_>, parcel: &[u8], drafts: &[Draft])
     ensures entry { Gains pools.old.columns (record { root = pools.old.nodes.mark } ∷ []) pools.new.columns }
     ensures shown { (s : Shelf) (slip : ℕ) → Accepted pools.old slip s parcel.now drafts.now → Shows (store_of pools.new) (filed_on s (parcel_read s.buffers parcel.now)) }
 {
-    let mut table = [0u16; 256];
-    store_by(pools, parcel, drafts, &mut table);
+    let mut table = [0; 256];
+    let spans = &mut table[..drafts.len()];
+    fill_spans(spans, drafts);
+    let root = pools.nodes.mark;
+    pools.columns.append(ColumnEntry { root });
+    put_nodes(pools, parcel, drafts, spans);
 }

@@ -1,8 +1,7 @@
 -- Rows of the columns of a shelf that the pools show, and the answers of the ledger about them.
-use Rattle.std.proofs.Common.{◌≡◌, ℕ, ◌<◌, ◌≤◌, Bool, true, false, ltb, leb, List, [], length, get_or, sym, ap, ◌∙◌, subst, arith, ltb-false, ltb-true, le-ltb, lt-ltb, le-leb}
+use Rattle.std.proofs.Common.{◌≡◌, ℕ, ◌<◌, ◌≤◌, Bool, true, ltb, leb, List, [], length, get_or, sym, ap, ◌∙◌, subst, arith, le-ltb, lt-ltb, le-leb}
 use mathlib.Core.Option.{none}
 use borrow.Author.Tests.{lt-leb}
-use Rattle.std.proofs.lemmas.List.{length-take-le}
 use Rattle.columns.specs.Column.{rows_of}
 use Rattle.columns.specs.Checks.{denial, unless, denied_or}
 use Rattle.columns.specs.Ledger as ledger
@@ -12,25 +11,19 @@ use Rattle.columns.specs.Pools.{Entries}
 use Rattle.columns.specs.Says.{says}
 use Rattle.columns.specs.Sound.{Sound}
 use Rattle.columns.specs.Text.{text}
-use Rattle.pools.specs.declared.pool.Pool.{Pool}
-use Rattle.pools.specs.declared.pools.Pools.{Pools}
-use Rattle.pools.specs.Used.{used}
-use Rattle.pools.specs.Kept.{Standing, Ready}
-use Rattle.pools.specs.Store.{Store, store, root_of, node_entry}
+use Rattle.pools.specs.declared.records.Node.{Node as Entry}
+use Rattle.pools.specs.Store.{Store, root_of, node_entry}
 use Rattle.pools.specs.Stored.{Stored}
 use Rattle.pools.proofs.Reading.{stored_node}
 use Rattle.reading.specs.Readable.{RowReadable, row_text}
 use Rattle.reading.specs.Answers.{ShelfReadable}
 
-pub used_to_mark : {X : Type 0} (p : Pool X) → Standing p → length (used p) ≡ p.mark
-used_to_mark p h = length-take-le p.mark p.lent.now h.fits
-
 -- which columns there are
-pub known_column : (p : Pools) (s : Shelf) (j : ℕ) → Ready p → ShelfReadable (store p) s → ltb j p.columns.mark ≡ true → j < length s.columns
-known_column p s j q r t = let l = ltb-true j p.columns.mark t in let a = used_to_mark p.columns q.columns in let b = r.shows.columns.count in omega arith
+pub known_column : {P : Store} {s : Shelf} (j : ℕ) → ShelfReadable P s → j < length P.columns → j < length s.columns
+known_column j r l = let b = r.shows.columns.count in omega arith
 
-pub unknown_column : (p : Pools) (s : Shelf) (j : ℕ) → Ready p → ShelfReadable (store p) s → ltb j p.columns.mark ≡ false → length s.columns ≤ j
-unknown_column p s j q r t = let l = ltb-false j p.columns.mark t in let a = used_to_mark p.columns q.columns in let b = r.shows.columns.count in omega arith
+pub unknown_column : {P : Store} {s : Shelf} (j : ℕ) → ShelfReadable P s → length P.columns ≤ j → length s.columns ≤ j
+unknown_column j r l = let b = r.shows.columns.count in omega arith
 
 pub stored_at : {P : Store} {s : Shelf} (j : ℕ) → ShelfReadable P s → j < length s.columns → Stored P (root_of P j) (column_at s j)
 stored_at j r l = r.shows.columns.stored j l
@@ -42,12 +35,9 @@ rows_at {P} {s} j r l = (stored_node P (root_of P j) (column_at s j) (stored_at 
 pub root_known : {P : Store} {s : Shelf} (j : ℕ) → ShelfReadable P s → j < length s.columns → root_of P j < length P.nodes
 root_known {P} {s} j r l = (stored_node P (root_of P j) (column_at s j) (stored_at j r l)).0
 
--- what a test of the row says
-pub row_there : {P : Store} {s : Shelf} (j i root : ℕ) {b : Bool} → ShelfReadable P s → j < length s.columns → root ≡ root_of P j → b ≡ ltb i (node_entry P root).rows → b ≡ true → i < rows_of (column_at s j)
-row_there {P} {s} j i root r l e h t = subst (λ n. i < n) (ap (λ k. (node_entry P k).rows) e ∙ rows_at j r l) (ltb-true i (node_entry P root).rows (sym h ∙ t))
-
-pub row_absent : {P : Store} {s : Shelf} (j i root : ℕ) {b : Bool} → ShelfReadable P s → j < length s.columns → root ≡ root_of P j → b ≡ ltb i (node_entry P root).rows → b ≡ false → rows_of (column_at s j) ≤ i
-row_absent {P} {s} j i root r l e h t = subst (λ n. n ≤ i) (ap (λ k. (node_entry P k).rows) e ∙ rows_at j r l) (ltb-false i (node_entry P root).rows (sym h ∙ t))
+-- how many rows there are by the entry that was read
+pub rows_read : {P : Store} {s : Shelf} (j root : ℕ) {r : Entry} → ShelfReadable P s → j < length s.columns → root ≡ root_of P j → r ≡ node_entry P root → r.rows ≡ rows_of (column_at s j)
+rows_read {P} j root q l e h = ap (λ (x : Entry). x.rows) h ∙ ap (λ k. (node_entry P k).rows) e ∙ rows_at j q l
 
 pub row_readable : {P : Store} {s : Shelf} (j i : ℕ) → ShelfReadable P s → j < length s.columns → i < rows_of (column_at s j) → RowReadable P (root_of P j) (column_at s j) i most_levels
 row_readable {P} {s} j i r l h =

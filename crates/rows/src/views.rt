@@ -55,42 +55,27 @@ pub fn inline_byte(view: View, i: usize) -> u8
     ensures is { result ≡ inline_byte view i }
     ensures told { (len : ℕ) (inline : List ℕ) → view_from view ≡ short len inline → result ≡ slice_index inline i }
 {
-    after_length(view, i)
-}
-
-fn after_length(view: View, i: usize) -> u8
-    requires { i < 12 }
-    ensures { result ≡ inline_byte view i }
-{
     if i < 4 {
-        byte_of(view.low, i + 4)
+        view.low.to_le_bytes()[i + 4]
     } else {
-        byte_of(view.high, i - 4)
+        view.high.to_le_bytes()[i - 4]
     }
-}
-
-// Byte i, the lowest being byte 0.
-fn byte_of(bits: u64, i: usize) -> u8
-    requires { i < 8 }
-    ensures { result ≡ bits / 2 ^ (8 * i) % 256 }
-{
-    ((bits >> (8 * i)) % 256) as u8
 }
 
 fn low_bits(bits: u64) -> u32
     ensures { result ≡ bits % 2 ^ 32 }
 {
-    (bits % 0x1_0000_0000) as u32
+    (bits & 0xffff_ffff) as u32
 }
 
 fn high_bits(bits: u64) -> u32
     ensures { result ≡ bits / 2 ^ 32 }
 {
-    (bits / 0x1_0000_0000) as u32
+    (bits >> 32) as u32
 }
 
 fn joined(low: u32, high: u32) -> u64
     ensures { result ≡ low + 2 ^ 32 * high }
 {
-    u64::from(low) + 0x1_0000_0000 * u64::from(high)
+    u64::from(low) | u64::from(high) << 32
 }

@@ -1,5 +1,9 @@
+use Rattle.parcels.specs.Lent.{brought_from}
+use Rattle.soundness.specs.Buffers.{buffers_from}
 use Rattle.filing.proofs.Lending.{Bringing}
 use Rattle.filing.proofs.lent.put_brought.Given as goal
 
-abbrev pub invariant-loop-k : goal.invariant-loop-k
-invariant-loop-k l = Bringing l.parcel l.initial.at l.initial.bytes l.bytes l.initial.buffers l.buffers l._k l.at
+abbrev pub invariant-loop-buffer : goal.invariant-loop-buffer
+invariant-loop-buffer l =
+    let it = l.buffer-iterator in
+    Bringing l.parcel l.initial.bytes l.bytes l.initial.buffers l.buffers (brought_from l.parcel l.fn.lent.start l.fn.lent.len) (buffers_from it.parcel.now it.at it.left)

@@ -1,24 +1,16 @@
-use Rattle.std.proofs.Common.{refl, arith}
-use Rattle.filing.proofs.Lending.{numbering_none, next_readable, next_listed, next_few, numbering_more, numbering_all}
+use Rattle.std.proofs.Common.{◌<◌, arith}
+use Rattle.std.proofs.ByRecursion.{All-from_get_or}
+use Rattle.columns.specs.Widths.{Bytes}
+use Rattle.filing.proofs.Lending.{named_small, numbering_start, numbering_next}
 use Rattle.filing.proofs.lent.put_numbers.Goals as goal
 
-pub number_at-number-requires : goal.number_at-number-requires
-number_at-number-requires c =
-    let s = c.loop-k.invariant in
-    let more = c.loop-k-test.true in
-    record { inside = next_readable _ _ _ _ _ s.place more c.requires.inside; few = next_few _ _ _ _ _ _ _ _ _ s more c.requires.few }
+pub loop-buffer-init : goal.loop-buffer-init
+loop-buffer-init c = numbering_start c.args.parcel.now c.args.lists.now c.args.first c.args.lent _ (cc) c.requires.inside c.requires.room c.requires.few
 
-pub append-requires : goal.append-requires
-append-requires c = next_listed _ _ _ _ _ _ _ _ _ c.loop-k.invariant c.loop-k-test.true c.requires.room
-
-pub loop-k-init : goal.loop-k-init
-loop-k-init c = numbering_none _ _ _ _
-
-pub loop-k-preserved : goal.loop-k-preserved
-loop-k-preserved c =
-    numbering_more _ _ _ c.args.lent.len _ _ _ _ _ c.loop-k.invariant _ _ _ _ c.number_at-number.ensures.number c.append.ensures c.number_at-number.ensures.after c.number_at-number.ensures.next
-
-pub returns : goal.returns
-returns c =
-    let s = numbering_all _ _ _ c.args.lent.len _ _ c.loop-k._k _ _ (omega (arith, c.loop-k-test.false)) c.loop-k.auto._k-end c.loop-k.invariant in
-    record { added = s.lists; lies = refl }
+pub overflow_cast-number : goal.overflow_cast-number
+overflow_cast-number c =
+    let small : Bytes c.args.parcel.now = All-from_get_or (λ b. b < 256) c.args.parcel.now 0 (λ i h. omega (arith, c.type_inv.parcel i)) in
+    omega (
+      arith,
+      named_small c.args.parcel.now c.in-Some.buffer c.in-Named.number small (numbering_next c.in-Some.buffer c.in-Some.ensures.steps c.loop-buffer.invariant).told.0 c.in-Named.is,
+    )

@@ -7,8 +7,8 @@ use Rattle.rows.proofs.buffers.buffered_text.Goals as goal
 
 pub returns : goal.returns
 returns c =
-    let buffer = c.shelved-buffer.ensures ∙ ap (λ b. get_or (store c.args.pools.now).buffers b no_part) c.buffer_number.ensures in
-    let is = c.inside.ensures ∙ ap (λ (p : Part). record { start = p.start + c.args.offset; len = c.args.len }) buffer in
+    let buffer = c.get-buffer.ensures no_part ∙ ap (λ b. get_or (store c.args.pools.now).buffers b no_part) c.buffer_number.ensures in
+    let is = c.narrow.ensures ∙ ap (λ (p : Part). record { start = p.start + c.args.offset; len = c.args.len }) buffer in
     record {
       is = is;
       told = λ listed shelved l s h within.

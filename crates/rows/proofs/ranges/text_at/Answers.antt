@@ -11,7 +11,7 @@ overflow_add-node c = let l = length-take c.args.offsets.now.mark c.args.offsets
 
 pub returns : goal.returns
 returns c =
-    let is = c.inside.ensures ∙ ap (λ (p : Part). record { start = c.args.node.now.text.start + p.start; len = p.len }) c.between-range.ensures in
+    let is = c.narrow.ensures ∙ ap (λ (p : Part). record { start = c.args.node.now.text.start + p.start; len = p.len }) c.between-range.ensures in
     record {
       is = is;
       told = λ bytes n os text h within.

@@ -8,8 +8,8 @@ use Rattle.rows.proofs.tree.next_child.Goals as goal
 
 pub returns : goal.returns
 returns c =
-    let span = ap (λ (e : Node). e.span) c.entry.ensures in
-    let is = c.after.ensures ∙ ap (λ n. c.args.place + n) span in
+    let span = c.from.ensures ∙ ap (λ (e : Node). e.span) (c.get.ensures no_node) in
+    let is = ap (λ n. c.args.place + n) span in
     record {
       is = is;
       told = λ P ds same l h. (

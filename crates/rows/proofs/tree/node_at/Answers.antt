@@ -9,7 +9,7 @@ use Rattle.rows.proofs.tree.node_at.Goals as goal
 
 pub returns : goal.returns
 returns c =
-    let is = c.entry.ensures in
+    let is = c.get.ensures no_node in
     record {
       is = is;
       told = λ P d same h.

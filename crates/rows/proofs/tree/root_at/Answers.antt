@@ -7,7 +7,7 @@ use Rattle.rows.proofs.tree.root_at.Goals as goal
 
 pub returns : goal.returns
 returns c =
-    let is = ap (λ (e : ColumnEntry). e.root) c.column_entry.ensures in
+    let is = ap (λ (e : ColumnEntry). e.root) (c.get.ensures no_column) in
     record {
       is = is;
       told = λ P cs same shown.

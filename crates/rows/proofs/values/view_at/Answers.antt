@@ -11,7 +11,7 @@ use Rattle.rows.proofs.values.view_at.Goals as goal
 
 pub returns : goal.returns
 returns c =
-    let is = c.take_apart.ensures ∙ ap parts_of (c.from_place.ensures no_halves) in
+    let is = c.take_apart.ensures ∙ ap parts_of (c.value_at.ensures.is no_halves) in
     record {
       is = is;
       told = λ rows vs lie h.
