@@ -1,9 +1,7 @@
-use Rattle.std.proofs.Common.{◌≡◌, ℕ, ◌+◌, ◌-◌, ◌<◌, ◌≤◌, Bool, true, false, cond, ◌&&◌, leb, List, [], ◌∷◌, get_or, drop, sym, refl, ap, ◌∙◌, arith}
+use Rattle.std.proofs.Common.{◌≡◌, ℕ, ◌+◌, Bool, cond, ◌&&◌, leb, List, [], ◌∷◌, refl, ap, ◌∙◌}
 use mathlib.Core.Option as math
-use Rattle.std.proofs.lemmas.List.{at_drop_more, at_drop_all}
 use Rattle.columns.specs.Checks.{first_failing}
 use Rattle.columns.specs.Pools.{Entries, of_pool, pools, fits, full_pool}
-use Rattle.soundness.proofs.Falls.{get_or_span}
 
 -- pools that agree are full alike
 first_same : {X : Type 0} (f g : X → Bool) → ((x : X) → f x ≡ g x) → (xs : List X) → first_failing f xs ≡ first_failing g xs

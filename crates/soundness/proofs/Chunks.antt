@@ -1,6 +1,6 @@
 -- entries that take so many bytes each, one after another
 use Rattle.std.proofs.Common.{◌≡◌, ℕ, zero, suc, ◌+◌, ◌*◌, ◌/◌, ◌<◌, Bool, true, false, cond, ◌&&◌, List, [], ◌∷◌, ◌++◌, map, length, take, drop, None, sym, refl, ap, ◌∙◌, arith}
-use Rattle.std.proofs.Math.Nat.{mul-add, add-div_left, div-eq_of_lt}
+use Rattle.std.proofs.Math.Nat.{mul-add, add-div_left, mul-div_cancel_left}
 use Rattle.std.proofs.Math.Seq.{drop-append-add}
 use Rattle.std.proofs.lemmas.List.{length-append, take-append-le, length-map, take_all}
 use Rattle.std.specs.List.{list_all}
@@ -14,6 +14,9 @@ use Rattle.columns.specs.Says.{span, slice}
 use Rattle.columns.specs.Contents.{values_in, view_in, views_in}
 use Rattle.columns.specs.Sound.{little_endian}
 use Rattle.parcels.proofs.Along.{length_span}
+use Rattle.formats.specs.declared.format.Width.{Width}
+use Rattle.formats.specs.declared.format.Width.TheVariants.{One, Two, Four, Eight}
+use Rattle.formats.specs.Spelled.{bytes_of}
 use Rattle.pools.specs.Laid.{entries_in}
 use Rattle.soundness.specs.Walks.{all_values, walked}
 
@@ -45,8 +48,8 @@ values_next w bytes x rest p e l =
     ∙ entries_next (λ b. little_endian (take w b)) w (length rest / w) x rest l
     ∙ ap (λ (b : List ℕ). little_endian b ∷ all_values w rest) (take-append-le w x rest (omega arith))
 
-pub values_none : (w : ℕ) (bytes : List ℕ) → length bytes < w → all_values w bytes ≡ []
-values_none w bytes h = ap (λ (k : ℕ). values_in w k bytes) (div-eq_of_lt h)
+pub values_all : (w n : ℕ) (bytes : List ℕ) → 0 < w → length bytes ≡ w * n → all_values w bytes ≡ values_in w n bytes
+values_all w n bytes p e = ap (λ (k : ℕ). values_in w k bytes) (ap (λ (k : ℕ). k / w) e ∙ mul-div_cancel_left n p)
 
 -- one value more is walked
 pub walk_stops : (test : ℕ → ℕ → Bool) (w low next : ℕ) (bytes x rest : List ℕ) → 0 < w → bytes ≡ x ++ rest → length x ≡ w → next ≡ little_endian (take w x) → test low next ≡ false → walked test low (all_values w bytes) ≡ None
@@ -78,3 +81,9 @@ views_chain =
 pub all_same : {X : Type 0} (test : X → Bool) (xs : List X) → list_all test xs ≡ all_of test xs
 all_same test [] = refl
 all_same test (x ∷ xs) = ap (λ (b : Bool). test x && b) (all_same test xs)
+
+pub some_bytes : (width : Width) → 0 < bytes_of width
+some_bytes One = omega arith
+some_bytes Two = omega arith
+some_bytes Four = omega arith
+some_bytes Eight = omega arith

@@ -31,10 +31,7 @@ fn mask_filled(parcel: &[u8], mask: Option<Part>, rows: usize) -> bool
     ensures exact { result ≡ true → MaskFilled rows mask }
     ensures is { result ≡ mask_fills rows (mask_of parcel.now mask) }
 {
-    match mask {
-        Some(part) => part.len == bit_bytes(rows),
-        None => true,
-    }
+    mask.is_none_or(|part| part.len == bit_bytes(rows))
 }
 
 // The mask and the first buffer have exactly the bytes that the rows take.

@@ -11,13 +11,10 @@ pub fn sent_at(parcel: &[u8], at: usize) -> Sent
     requires { at + data_size parcel.now at ≤ length parcel.now }
     ensures { SentAt parcel.now at result }
 {
-    match length_of(&parcel[at..]) {
-        Some(len) => if len < 2147483648 {
-            Sent::Brought(len)
-        } else {
-            Sent::Named(len - 2147483648)
-        },
-        None => unreachable(),
+    let len = length_of(&parcel[at..]).unwrap();
+    match len.checked_sub(2147483648) {
+        Some(number) => Sent::Named(number),
+        None => Sent::Brought(len),
     }
 }
 

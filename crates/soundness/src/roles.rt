@@ -22,10 +22,7 @@ fn no_nulls(parcel: &[u8], mask: Option<Part>, rows: usize) -> bool
     requires { (MaskWithin parcel.now mask) × (MaskFilled rows mask) }
     ensures { result ≡ not (null_in rows (mask_of parcel.now mask)) }
 {
-    match mask {
-        Some(part) => all_valid(part.of(parcel), rows),
-        None => true,
-    }
+    mask.is_none_or(|part| all_valid(part.of(parcel), rows))
 }
 
 fn ends_reach(node: SentNode<'_>, width: Width, top: u64) -> bool
