@@ -1,5 +1,5 @@
 -- Rows of the columns of a shelf that the pools show, and the answers of the ledger about them.
-use Rattle.std.proofs.Common.{◌≡◌, ℕ, ◌<◌, ◌≤◌, Bool, true, ltb, leb, List, [], length, get_or, sym, ap, ◌∙◌, subst, arith, le-ltb, lt-ltb, le-leb}
+use Rattle.std.proofs.Common.{◌≡◌, ℕ, ◌<◌, ◌≤◌, Bool, true, ltb, leb, List, [], length, get_or, Some, None, Ok, Err, Option, sym, ap, ◌∙◌, subst, arith, le-ltb, lt-ltb, le-leb}
 use mathlib.Core.Option.{none}
 use borrow.Author.Tests.{lt-leb}
 use Rattle.columns.specs.Column.{rows_of}
@@ -16,7 +16,9 @@ use Rattle.pools.specs.Store.{Store, root_of, node_entry}
 use Rattle.pools.specs.Stored.{Stored}
 use Rattle.pools.proofs.Reading.{stored_node}
 use Rattle.reading.specs.Readable.{RowReadable, row_text}
-use Rattle.reading.specs.Answers.{ShelfReadable}
+use Rattle.std.specs.Option.{ok_or}
+use Rattle.denials.specs.declared.Denial.TheVariants.{Text}
+use Rattle.reading.specs.Answers.{ShelfReadable, Placed, Gives}
 
 -- which columns there are
 pub known_column : {P : Store} {s : Shelf} (j : ℕ) → ShelfReadable P s → j < length P.columns → j < length s.columns
@@ -69,14 +71,21 @@ row_outside lengths s j i room l h =
     ap (λ b. ladder j i room (wrote (ledger.row_text s j i)) b (ltb i (rows_of (column_at s j))) (leb (length (ledger.row_text s j i)) room)) (lt-ltb j (length s.columns) l)
     ∙ ap (λ b. ladder j i room (wrote (ledger.row_text s j i)) true b (leb (length (ledger.row_text s j i)) room)) (le-ltb i (rows_of (column_at s j)) h)
 
-pub text_longer : (lengths : Entries) (s : Shelf) (j i room : ℕ) → j < length s.columns → i < rows_of (column_at s j) → room < length (ledger.row_text s j i) → answer lengths s (reads j i room) ≡ refused (denial 10 room)
+text_longer : (lengths : Entries) (s : Shelf) (j i room : ℕ) → j < length s.columns → i < rows_of (column_at s j) → room < length (ledger.row_text s j i) → answer lengths s (reads j i room) ≡ refused (denial 10 room)
 text_longer lengths s j i room l h f =
     ap (λ b. ladder j i room (wrote (ledger.row_text s j i)) b (ltb i (rows_of (column_at s j))) (leb (length (ledger.row_text s j i)) room)) (lt-ltb j (length s.columns) l)
     ∙ ap (λ b. ladder j i room (wrote (ledger.row_text s j i)) true b (leb (length (ledger.row_text s j i)) room)) (lt-ltb i (rows_of (column_at s j)) h)
     ∙ ap (λ b. ladder j i room (wrote (ledger.row_text s j i)) true true b) (lt-leb (length (ledger.row_text s j i)) room f)
 
-pub text_fits : (lengths : Entries) (s : Shelf) (j i room : ℕ) → j < length s.columns → i < rows_of (column_at s j) → length (ledger.row_text s j i) ≤ room → answer lengths s (reads j i room) ≡ wrote (ledger.row_text s j i)
+text_fits : (lengths : Entries) (s : Shelf) (j i room : ℕ) → j < length s.columns → i < rows_of (column_at s j) → length (ledger.row_text s j i) ≤ room → answer lengths s (reads j i room) ≡ wrote (ledger.row_text s j i)
 text_fits lengths s j i room l h f =
     ap (λ b. ladder j i room (wrote (ledger.row_text s j i)) b (ltb i (rows_of (column_at s j))) (leb (length (ledger.row_text s j i)) room)) (lt-ltb j (length s.columns) l)
     ∙ ap (λ b. ladder j i room (wrote (ledger.row_text s j i)) true b (leb (length (ledger.row_text s j i)) room)) (lt-ltb i (rows_of (column_at s j)) h)
     ∙ ap (λ b. ladder j i room (wrote (ledger.row_text s j i)) true true b) (le-leb (length (ledger.row_text s j i)) room f)
+
+-- a text that is placed or too long gives the ledger's answer
+pub read_gives : (lengths : Entries) (s : Shelf) (j i : ℕ) (r : Option ℕ) (before after : List ℕ) → j < length s.columns → i < rows_of (column_at s j) → Placed r (ledger.row_text s j i) before after →
+    Gives (ok_or r (Text (length after))) (answer lengths s (reads j i (length before))) before after
+read_gives lengths s j i (Some n) before after l h p = subst (λ (a : Answer). Gives (Ok n) a before after) (sym (text_fits lengths s j i (length before) l h p.fits)) p
+read_gives lengths s j i None before after l h p =
+    subst (λ (a : Answer). Gives (Err (Text (length after))) a before after) (sym (text_longer lengths s j i (length before) l h p.longer)) (ap (λ (t : List ℕ). denial 10 (length t)) p.same, p.same)
