@@ -29,7 +29,8 @@ fn byte_of(value: u64, k: u8) -> u8
         .unwrap_or(0)
 }
 
-// Where the first byte that has no room is refused, what was written before it stays.
+// Takes bytes in turn while there is room for them. The first that has no room is refused, and what was written before it
+// stays.
 pub trait Ink {
     // how many bytes more go in
     ghost room: { Self → ℕ };

@@ -12,7 +12,7 @@ use rows::buffers::buffered_text;
 use rows::ranges::text_at;
 use rows::runs::number_at;
 use rows::values::{bit_at, value_at};
-use rows::views::{ViewParts, take_apart};
+use rows::views::ViewParts;
 
 // The letter of a bit.
 fn letter(bit: bool) -> u8
@@ -39,7 +39,7 @@ impl Shown<'_> {
         requires { ViewIn (store self.pools.now) node.now.buffers view }
         ensures { Wrote I.room I.marked ink.old (quoted (viewed (store self.entry.pools.now) node.now.buffers view)) ink.new result }
     {
-        match take_apart(view) {
+        match ViewParts::from(view) {
             ViewParts::Inline { len } => short(ink, len as u8, view),
             ViewParts::Buffered {
                 len,

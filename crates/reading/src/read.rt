@@ -68,8 +68,7 @@ pub fn read(pools: &Pools<'_>, column: u32, row: usize, text: &mut [u8]) -> Resu
         return Err(Denial::Outside(row));
     }
     let shown = Shown { pools };
-    match shown.row_text(root, row, text) {
-        Some(len) => Ok(len),
-        None => Err(Denial::Text(text.len())),
-    }
+    shown
+        .row_text(root, row, text)
+        .ok_or(Denial::Text(text.len()))
 }

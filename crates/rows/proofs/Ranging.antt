@@ -11,7 +11,7 @@ use Rattle.pools.specs.declared.records.Part.{Part}
 use Rattle.pools.specs.declared.records.Node.{Node as Entry}
 use Rattle.pools.specs.Store.{Store, Segment, Lies}
 use Rattle.pools.specs.Held.{own_buffers, BuffersLie, Held}
-use Rattle.rows.specs.Ranged.{between, row_range, RangeThere, text_part}
+use Rattle.rows.specs.Ranged.{between, row_range, text_part}
 use Rattle.pools.proofs.Fronts.{segment_at, segment_part, segment_length}
 
 -- a row's range, as a start and a length
@@ -35,11 +35,6 @@ none_there n e z row = (no_offsets n e z row, ap₂ ◌-◌ (no_offsets n e z (r
 -- a kind whose ranges are read by offsets
 abbrev pub ByOffsets : Kind → Type 0
 ByOffsets k = ((wide : Bool) × (k ≡ Text wide)) ⊎ (((wide : Bool) × (k ≡ Listed wide)) ⊎ (k ≡ Map))
-
-pub offsets_there : (os : List ℕ) (k : Kind) (place row : ℕ) → ByOffsets k → RangeThere os k place row → place + row + 1 < length os
-offsets_there os k place row (inl t) h = subst (λ j. RangeThere os j place row) t.1 h
-offsets_there os k place row (inr (inl t)) h = subst (λ j. RangeThere os j place row) t.1 h
-offsets_there os k place row (inr (inr t)) h = subst (λ j. RangeThere os j place row) t h
 
 pub offsets_range : (os : List ℕ) (k : Kind) (place row : ℕ) → ByOffsets k → row_range os k place row ≡ between os (place + row)
 offsets_range os k place row (inl t) = ap (λ j. row_range os j place row) t.1

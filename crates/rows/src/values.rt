@@ -10,7 +10,7 @@ ghost use Rattle.pools.specs.Held.{BitsLie, MaskLies, view_from};
 ghost use Rattle.rows.specs.Views.{parts_of, view_parts};
 ghost use Rattle.pools.specs.Bits.{bit_of, mask_bit, MaskThere};
 
-use crate::views::{ViewParts, take_apart};
+use crate::views::ViewParts;
 use pools::bits::bit;
 use pools::pool::Pool;
 use pools::records::View;
@@ -52,5 +52,5 @@ pub fn view_at(views: &Pool<'_, View>, place: usize, row: usize) -> ViewParts
     ensures is { result ≡ parts_of (slice_index_or (used views.now) (place + row) no_halves) }
     ensures told { (rows : ℕ) (vs : List Viewed) → Segment (map view_from (used views.now)) place rows vs → row < rows → result ≡ view_parts (slice_index_or vs row (short 0 [])) }
 {
-    take_apart(value_at(views, place, row))
+    ViewParts::from(value_at(views, place, row))
 }

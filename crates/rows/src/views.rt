@@ -8,7 +8,7 @@ use pools::records::View;
 
 // Up to 12 bytes lie in the view itself; a longer text lies in a data buffer, which is named by its position in the
 // node's list of buffers.
-#[derive(Clone, Copy)]
+#[derive(Clone, Copy, PartialEq, Eq, Debug)]
 pub enum ViewParts {
     Inline {
         len: u32,
@@ -21,19 +21,21 @@ pub enum ViewParts {
     },
 }
 
-pub fn take_apart(view: View) -> ViewParts
-    ensures { result ≡ parts_of view }
-{
-    let len = low_bits(view.low);
-    if len > 12 {
-        ViewParts::Buffered {
-            len,
-            prefix: high_bits(view.low),
-            position: low_bits(view.high),
-            offset: high_bits(view.high),
+impl From<View> for ViewParts {
+    ghost from_gives = { λ view parts. parts ≡ parts_of view };
+
+    fn from(view: View) -> ViewParts {
+        let len = low_bits(view.low);
+        if len > 12 {
+            ViewParts::Buffered {
+                len,
+                prefix: high_bits(view.low),
+                position: low_bits(view.high),
+                offset: high_bits(view.high),
+            }
+        } else {
+            ViewParts::Inline { len }
         }
-    } else {
-        ViewParts::Inline { len }
     }
 }
 
