@@ -1,12 +1,12 @@
 // A data buffer in the parcel.
-ghost use Rattle.std.specs.Prelude.{◌≡◌, ℕ, ◌+◌, ◌-◌, ◌*◌, ◌/◌, ◌<◌, ◌≤◌, true, List, length};
+ghost use Rattle.std.specs.Prelude.{◌≡◌, ◌+◌, ◌≤◌, length};
 ghost use Rattle.parcels.specs.Lent.{data_size};
 ghost use Rattle.soundness.specs.Sources.{SentAt};
 
 use crate::sent::Sent;
 use parcels::items::length_of;
 
-// How the data buffer at a place is sent.
+// How the data buffer at a place is sent: from 2 ^ 31 on, its length is a number.
 pub fn sent_at(parcel: &[u8], at: usize) -> Sent
     requires { at + data_size parcel.now at ≤ length parcel.now }
     ensures { SentAt parcel.now at result }
