@@ -175,7 +175,7 @@ filed_then p q r parcel ds es ss ts e a b =
 pub room_one : (p : Pools) (parcel : List ℕ) (d : Draft) (span : ℕ) (m : Marks) → Drafted parcel d → Filled d → Fits p (takes parcel d) → Room p (node_news parcel d span m)
 room_one p parcel d span m h f r =
     let body : List ℕ = within parcel d.parts.body in
-    let fits = plan_within parcel d (plan_in d) refl h f.body body refl in
+    let fits = plan_within parcel d h f.body in
     record {
       columns = r.columns;
       nodes = r.nodes;
@@ -227,7 +227,7 @@ unfolding takes_all nodes_from brought_all Row
 filed_one p q parcel d span ready small h f r g =
     let m : Marks = marks_of p in
     let body : List ℕ = within parcel d.parts.body in
-    let fits = plan_within parcel d (plan_in d) refl h f.body body refl in
+    let fits = plan_within parcel d h f.body in
     let own = own_length parcel d h fits.plain in
     let room = room_one p parcel d span m h f r in
     let entry = entry_added (entry_of d span m) no_node ready.nodes.fits g.nodes in

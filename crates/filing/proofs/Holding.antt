@@ -39,11 +39,10 @@ use Rattle.parcels.specs.declared.draft.Parts.{Parts}
 use Rattle.parcels.specs.Reads.{within, Within, MaskWithin, mask_of, sent_of}
 use Rattle.parcels.specs.Lent.{data_from}
 use Rattle.parcels.specs.Drafts.{Drafted, node_in, head_in}
-use Rattle.filing.specs.declared.plan.Plan.{Plan}
 use Rattle.pools.specs.Laid.{halves_in, entries_in}
 use Rattle.filing.specs.Lent.{flat}
 use Rattle.filing.specs.Masks.{mask_len, mask_sent, mask_at}
-use Rattle.filing.specs.Plans.{plan_of, place_in, body_bytes}
+use Rattle.filing.specs.Plans.{Plan, plan_of, place_in, body_bytes}
 use Rattle.filing.specs.News.{Gained, Filled, MaskFilled, node_news, plan_in, brought_by, plain_start, entry_of}
 use Rattle.filing.proofs.Numbers.{views_told}
 use Rattle.filing.proofs.Fitting.{part_length, mask_length, count_length, entries_length, data_length, plan_within}
@@ -153,7 +152,7 @@ pub node_held : (p q : Pools) (parcel : List ℕ) (d : Draft) (span : ℕ) → R
     → Held (store q) (entry_of d span (marks_of p)) (node_in parcel d (data_from parcel d.parts.lent.start p.buffers.mark d.parts.lent.len)) d.head.children span
 node_held p q parcel d span ready small h f g =
     let body : List ℕ = within parcel d.parts.body in
-    let fits = plan_within parcel d (plan_in d) refl h f.body body refl in
+    let fits = plan_within parcel d h f.body in
     let m : Marks = marks_of p in
     let F : List ℕ = within parcel d.head.format in
     let M : List ℕ = mask_sent parcel d.parts.mask in

@@ -20,5 +20,5 @@ loop-entry-preserved g c =
       laying = laying_more _ _ _ c.in-Some.entry.now after c.from.result c.append.new.self s.1 s.0.1.0 size (subst (λ x. g.E.From.from_gives x c.from.result) told c.from.ensures) c.append.ensures i.laying;
     }
 
-pub returns : goal.returns
-returns g c = laying_end _ _ (λ h. let s = c.in-None.ensures.steps h in subst (λ n. length (chunks_exact_rest (take_source c.loop-entry.entry-iterator)) < n) c.loop-entry.invariant.size s.1.0) c.loop-entry.invariant.laying
+pub returns-clause-added : goal.returns-clause-added
+returns-clause-added g c = laying_end _ _ (λ h. let s = c.in-None.ensures.steps h in subst (λ n. length (chunks_exact_rest (take_source c.loop-entry.entry-iterator)) < n) c.loop-entry.invariant.size s.1.0) c.loop-entry.invariant.laying
