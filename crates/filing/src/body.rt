@@ -6,7 +6,7 @@ ghost use Rattle.filing.specs.Plans.{place_in};
 ghost use Rattle.filing.specs.News.{Filled, plan_in};
 ghost use Rattle.filing.specs.Bodies.{BodyRoom, BodyGained};
 
-use crate::read::{put_entries, put_offsets};
+use crate::read::put_entries;
 use formats::format::Width;
 use formats::kind::Kind;
 use parcels::draft::Draft;
@@ -50,13 +50,12 @@ pub(crate) fn put_body(pools: &mut Pools<'_>, parcel: &[u8], draft: Draft, plain
         Kind::Primitive(Width::Two) => put_entries::<u16, u16>(&mut pools.shorts, body, rows),
         Kind::Primitive(Width::Four) => put_entries::<u32, u32>(&mut pools.words, body, rows),
         Kind::Primitive(Width::Eight) => put_entries::<u64, u64>(&mut pools.longs, body, rows),
-        Kind::Text { wide } | Kind::List { wide } => put_offsets(
-            &mut pools.offsets,
-            body,
-            rows + 1,
-            wide,
-        ),
-        Kind::Map => put_offsets(&mut pools.offsets, body, rows + 1, false),
+        Kind::Text { wide: true } | Kind::List { wide: true } => {
+            put_entries::<u64, u64>(&mut pools.offsets, body, rows + 1)
+        }
+        Kind::Text { wide: false } | Kind::List { wide: false } | Kind::Map => {
+            put_entries::<u32, u64>(&mut pools.offsets, body, rows + 1)
+        }
         Kind::View => put_entries::<View, View>(&mut pools.views, body, rows),
         Kind::Struct | Kind::RunEnds | Kind::FixedList(_) => 0,
     }

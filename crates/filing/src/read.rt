@@ -1,8 +1,6 @@
 // Entries as they lie in a buffer, into the pools.
 ghost use Rattle.std.specs.Prelude.{◌≡◌, ◌*◌, ◌<◌, ◌≤◌, List, length, take};
 ghost use Rattle.std.specs.List.{AllZip};
-ghost use Rattle.columns.specs.Contents.{values_in};
-ghost use Rattle.formats.specs.Spelled.{wide_bytes};
 ghost use Rattle.pools.specs.Laid.{entries_in};
 ghost use Rattle.pools.specs.Used.{Fit, Gains};
 
@@ -26,23 +24,4 @@ pub(crate) fn put_entries<T: Laid, E: From<T> + Copy>(
         pool.append(E::from(T::first_of(entry)));
     }
     start
-}
-
-// Adds so many offsets, of eight bytes where they are wide, else of four, and says where they start.
-pub(crate) fn put_offsets(
-    offsets: &mut Pool<'_, u64>,
-    body: &[u8],
-    count: usize,
-    wide: bool,
-) -> usize
-    requires room { Fit offsets.old count }
-    requires filled { wide_bytes wide * count ≤ length body.now }
-    ensures added { Gains offsets.old (values_in (wide_bytes wide) count body.now) offsets.new }
-    ensures start { result ≡ offsets.old.mark }
-{
-    if wide {
-        put_entries::<u64, u64>(offsets, body, count)
-    } else {
-        put_entries::<u32, u64>(offsets, body, count)
-    }
 }
