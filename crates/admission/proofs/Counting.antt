@@ -13,14 +13,14 @@ use Rattle.formats.specs.declared.kind.Kind.{Kind}
 use Rattle.formats.specs.declared.kind.Kind.TheVariants.{Primitive, Boolean, Text, View, Map, Struct, RunEnds, FixedList}
 use Rattle.formats.specs.declared.kind.Kind.TheVariants.{List as ListOf}
 use Rattle.parcels.specs.declared.draft.Draft.{Draft}
-use Rattle.admission.specs.declared.entries.Entries.{Entries}
-use Rattle.admission.specs.Needs.{listed, one_new, one_bytes, width_entries, kind_entries, draft_entries, drafts_need}
+use Rattle.pools.specs.declared.pools.Marks.{Marks}
+use Rattle.admission.specs.Needs.{needed, one_new, one_bytes, width_entries, kind_entries, draft_entries, drafts_need}
 use Rattle.soundness.specs.declared.sent.DataBuffer.{DataBuffer}
 use Rattle.soundness.specs.declared.sent.Sent.{Sent}
 use Rattle.soundness.specs.declared.sent.Sent.TheVariants.{Brought, Named}
 use Rattle.soundness.specs.Buffers.{buffers_from}
-use Rattle.soundness.specs.Sources.{SentAt}
-use Rattle.soundness.proofs.Buffers.{Told, bytes_then, brought_in, brought_is, buffers_told, length_buffers}
+use Rattle.soundness.specs.Sources.{SentAt, Told}
+use Rattle.soundness.proofs.Buffers.{bytes_then, brought_in, brought_is, buffers_told, length_buffers}
 
 -- the data buffers of a list that are brought, and their bytes
 abbrev pub new_in : List DataBuffer → ℕ
@@ -136,7 +136,7 @@ module _ (base r t l new : ℕ) (hb : base < 140737490000000) (hr : r ≤ 104857
   kind_low (FixedList size) = plain_low
 
 -- the bound of a sum
-pub plus_most : (m n : ℕ) (a b : Entries) → AllByRecursion (λ v. v ≤ m) (listed a) → AllByRecursion (λ v. v ≤ n) (listed b) → AllByRecursion (λ v. v ≤ m + n) (plus (listed a) (listed b))
+pub plus_most : (m n : ℕ) (a b : Marks) → AllByRecursion (λ v. v ≤ m) (needed a) → AllByRecursion (λ v. v ≤ n) (needed b) → AllByRecursion (λ v. v ≤ m + n) (plus (needed a) (needed b))
 plus_most m n a b (p₁, (p₂, (p₃, (p₄, (p₅, (p₆, (p₇, (p₈, (p₉, (p₁₀, (p₁₁, _))))))))))) (q₁, (q₂, (q₃, (q₄, (q₅, (q₆, (q₇, (q₈, (q₉, (q₁₀, (q₁₁, _))))))))))) =
     (omega arith, (omega arith, (omega arith, (omega arith, (omega arith, (omega arith, (omega arith, (omega arith, (omega arith, (omega arith, (omega arith, tt)))))))))))
 
@@ -144,16 +144,16 @@ pub all_below : (m n : ℕ) (xs : List ℕ) → m ≤ n → AllByRecursion (λ v
 all_below m n xs h a = All-weaker (λ v. v ≤ m) (λ v. v ≤ n) (λ x p. omega arith) xs a
 
 -- a draft is added
-module _ (parcel : List ℕ) (D : List Draft) (i : ℕ) (total own after : Entries) (d : Draft) (ds : drop i D ≡ d ∷ drop (i + 1) D)
-    (e : listed own ≡ draft_entries parcel d) (f : listed after ≡ plus (listed total) (listed own)) where
-  pub add_more : plus (listed total) (drafts_need parcel (drop i D)) ≡ plus (listed after) (drafts_need parcel (drop (i + 1) D))
+module _ (parcel : List ℕ) (D : List Draft) (i : ℕ) (total own after : Marks) (d : Draft) (ds : drop i D ≡ d ∷ drop (i + 1) D)
+    (e : needed own ≡ draft_entries parcel d) (f : needed after ≡ plus (needed total) (needed own)) where
+  pub add_more : plus (needed total) (drafts_need parcel (drop i D)) ≡ plus (needed after) (drafts_need parcel (drop (i + 1) D))
   unfolding drafts_need
   add_more =
-      ap (λ (l : List Draft). plus (listed total) (drafts_need parcel l)) ds
-      ∙ ap (λ (l : List ℕ). plus (listed total) (plus l (drafts_need parcel (drop (i + 1) D)))) (sym e)
-      ∙ sym (plus_assoc (listed total) (listed own) (drafts_need parcel (drop (i + 1) D)))
+      ap (λ (l : List Draft). plus (needed total) (drafts_need parcel l)) ds
+      ∙ ap (λ (l : List ℕ). plus (needed total) (plus l (drafts_need parcel (drop (i + 1) D)))) (sym e)
+      ∙ sym (plus_assoc (needed total) (needed own) (drafts_need parcel (drop (i + 1) D)))
       ∙ ap (λ (l : List ℕ). plus l (drafts_need parcel (drop (i + 1) D))) (sym f)
 
-pub add_all : (parcel : List ℕ) (D : List Draft) (i : ℕ) (total : Entries) → length D ≤ i → listed total ≡ plus (listed total) (drafts_need parcel (drop i D))
+pub add_all : (parcel : List ℕ) (D : List Draft) (i : ℕ) (total : Marks) → length D ≤ i → needed total ≡ plus (needed total) (drafts_need parcel (drop i D))
 unfolding drafts_need
-add_all parcel D i total h = sym (ap (λ (l : List Draft). plus (listed total) (drafts_need parcel l)) (drop_all i D h) ∙ simp add-zero)
+add_all parcel D i total h = sym (ap (λ (l : List Draft). plus (needed total) (drafts_need parcel l)) (drop_all i D h) ∙ simp add-zero)

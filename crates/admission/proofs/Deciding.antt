@@ -11,8 +11,9 @@ use Rattle.pools.specs.declared.records.Part.{Part}
 use Rattle.pools.specs.Parts.{part_of, buffers_in}
 use Rattle.parcels.specs.declared.draft.Draft.{Draft}
 use Rattle.parcels.specs.Drafts.{Drafted, Outlined, checks_of}
-use Rattle.admission.specs.declared.entries.Entries.{Entries}
-use Rattle.admission.specs.Needs.{listed, drafts_need}
+use Rattle.pools.specs.declared.entries.Entries.{Entries}
+use Rattle.pools.specs.Marked.{listed}
+use Rattle.admission.specs.Needs.{drafts_need}
 use Rattle.admission.specs.Examine.{Stands}
 use Rattle.admission.proofs.Rooms.{full_agrees}
 use Rattle.soundness.proofs.Rungs.{unlifted_some, unlifted_none}

@@ -7,8 +7,8 @@ use Rattle.pools.specs.declared.records.Part.{Part}
 use Rattle.pools.specs.Parts.{buffers_in}
 use Rattle.parcels.specs.declared.draft.Draft.{Draft}
 use Rattle.parcels.specs.Drafts.{Drafted, Outlined}
-use Rattle.admission.specs.declared.entries.Entries.{Entries}
-use Rattle.admission.specs.Needs.{listed}
+use Rattle.pools.specs.declared.entries.Entries.{Entries}
+use Rattle.pools.specs.Marked.{listed}
 
 -- The shelf has these data buffers, whose bytes lie in the pool of bytes, and these marks; its pools have these lengths.
 pub record Stands (lengths : List ℕ) (s : Shelf) (bytes : List ℕ) (buffers : List Part) (long used : Entries) : Type 0 where

@@ -1,7 +1,9 @@
 -- What drafts need of the pools.
-use Rattle.std.specs.Prelude.{ℕ, ◌+◌, List, [], ◌∷◌, map, length, Some, None, Option}
+use Rattle.std.specs.Prelude.{ℕ, ◌+◌, List, [], ◌∷◌, ◌++◌, map, length, Some, None, Option}
 use Rattle.columns.specs.Column.{bytes_for}
 use Rattle.columns.specs.Pools.{plus, sum_of}
+use Rattle.pools.specs.declared.pools.Marks.{Marks}
+use Rattle.pools.specs.Marked.{entries}
 use Rattle.pools.specs.declared.records.Part.{Part}
 use Rattle.formats.specs.declared.format.Width.{Width}
 use Rattle.formats.specs.declared.format.Width.TheVariants.{One, Two, Four, Eight}
@@ -12,12 +14,10 @@ use Rattle.parcels.specs.declared.draft.Draft.{Draft}
 use Rattle.parcels.specs.Lent.{brought_from}
 use Rattle.soundness.specs.declared.sent.Sent.{Sent}
 use Rattle.soundness.specs.declared.sent.Sent.TheVariants.{Brought, Named}
-use Rattle.admission.specs.declared.entries.Entries.{Entries}
 
--- pools 1 to 11
-abbrev pub listed : Entries → List ℕ
-listed x =
-    x.columns ∷ x.nodes ∷ x.bytes ∷ x.twos ∷ x.fours ∷ x.eights ∷ x.offsets ∷ x.views ∷ x.lists ∷ x.buffers ∷ x.slip ∷ []
+-- of pools 1 to 11: nothing of the slip
+abbrev pub needed : Marks → List ℕ
+needed x = entries x ++ 0 ∷ []
 
 -- how many data buffers a data buffer brings, as 1 or 0, and its bytes if it is brought
 abbrev pub one_new : Sent → ℕ

@@ -1,4 +1,4 @@
-use crate::entries::Entries;
+use pools::entries::Entries;
 
 // A parcel that may be stored: how many nodes are drafted, and what they need of the pools.
 #[derive(Clone, Copy)]

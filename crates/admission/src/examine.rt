@@ -9,14 +9,15 @@ ghost use Rattle.soundness.specs.Ladder.{denial_in};
 ghost use Rattle.admission.specs.Examine.{Stands, Examined};
 
 use crate::accepted::Accepted;
-use crate::entries::Entries;
 use crate::needs::needs;
-use crate::room::full;
 use denials::Denial;
 use parcels::draft::Draft;
 use parcels::node::outline;
+use pools::entries::Entries;
 use pools::records::Part;
+use pools::room::full_pool;
 use soundness::ladder::first_denied;
+use soundness::shelved::Shelved;
 
 // The first denial that a parcel meets: as it is read, then by node, then for want of room. Else its nodes are drafted,
 // and what they need is told.
@@ -38,9 +39,10 @@ pub fn examine(
 {
     let nodes = outline(parcel, drafts)?;
     let drafted = &drafts[0..nodes];
-    first_denied(parcel, bytes, buffers, drafted)?;
+    let shelved = Shelved { bytes, buffers };
+    first_denied(parcel, shelved, drafted)?;
     let needed = needs(parcel, drafted);
-    if let Some(pool) = full(lengths, marks, needed) {
+    if let Some(pool) = full_pool(&lengths, &marks, &needed) {
         return Err(Denial::Full(pool));
     }
     Ok(Accepted {

@@ -2,7 +2,5 @@
 #![tactic(auto)]
 
 pub mod accepted;
-pub mod entries;
 pub mod examine;
 pub mod needs;
-pub mod room;

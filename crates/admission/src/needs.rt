@@ -4,14 +4,17 @@ ghost use Rattle.std.specs.List.{AllByRecursion};
 ghost use Rattle.columns.specs.Pools.{plus, one_column, sum_of};
 ghost use Rattle.parcels.specs.Lent.{brought_from};
 ghost use Rattle.parcels.specs.Drafts.{Drafted};
-ghost use Rattle.admission.specs.Needs.{listed, mask_need, width_entries, kind_entries, draft_entries, drafts_need};
+ghost use Rattle.pools.specs.Marked.{listed};
+ghost use Rattle.admission.specs.Needs.{needed, mask_need, width_entries, kind_entries, draft_entries, drafts_need};
 
-use crate::entries::Entries;
 use formats::format::Width;
 use formats::kind::Kind;
 use parcels::draft::Draft;
+use pools::entries::Entries;
+use pools::pools::Marks;
 use pools::records::Part;
 use soundness::data_buffers::DataBuffers;
+use soundness::node::SentNode;
 use soundness::sent::Sent;
 use soundness::values::bit_bytes;
 
@@ -43,58 +46,58 @@ fn brought(lent: DataBuffers<'_>) -> NewBuffers
 }
 
 // What values of a width need, with `base` bytes and `new` data buffers.
-fn width_needs(width: Width, base: usize, rows: usize, new: usize) -> Entries
+fn width_needs(width: Width, base: usize, rows: usize, new: usize) -> Marks
     requires { (base < 140737490000000) × (rows ≤ 1048576) }
-    ensures { listed result ≡ width_entries width base rows new }
+    ensures { needed result ≡ width_entries width base rows new }
 {
-    let own = Entries {
+    let own = Marks {
         nodes: 1,
         bytes: base,
         buffers: new,
-        ..Entries::NONE
+        ..Marks::default()
     };
     match width {
-        Width::One => Entries {
+        Width::One => Marks {
             bytes: base + rows,
             ..own
         },
-        Width::Two => Entries { twos: rows, ..own },
-        Width::Four => Entries { fours: rows, ..own },
-        Width::Eight => Entries {
-            eights: rows,
+        Width::Two => Marks {
+            shorts: rows,
             ..own
         },
+        Width::Four => Marks { words: rows, ..own },
+        Width::Eight => Marks { longs: rows, ..own },
     }
 }
 
 // What a node of a kind needs: `base` bytes whatever its kind is, and `new` data buffers.
-fn kind_needs(kind: Kind, base: usize, rows: usize, text: usize, list: usize, new: usize) -> Entries
+fn kind_needs(kind: Kind, base: usize, rows: usize, text: usize, list: usize, new: usize) -> Marks
     requires { (base < 140737490000000) × ((rows ≤ 1048576) × ((text < 4294967296) × ((list < 65536) × (new < 65536)))) }
-    ensures { listed result ≡ kind_entries kind base rows text list new }
+    ensures { needed result ≡ kind_entries kind base rows text list new }
 {
-    let own = Entries {
+    let own = Marks {
         nodes: 1,
         bytes: base,
         buffers: new,
-        ..Entries::NONE
+        ..Marks::default()
     };
     match kind {
         Kind::Primitive(width) => width_needs(width, base, rows, new),
-        Kind::Boolean => Entries {
+        Kind::Boolean => Marks {
             bytes: base + bit_bytes(rows),
             ..own
         },
-        Kind::Text { .. } => Entries {
+        Kind::Text { .. } => Marks {
             bytes: base + text,
             offsets: rows + 1,
             ..own
         },
-        Kind::View => Entries {
+        Kind::View => Marks {
             views: rows,
             lists: list,
             ..own
         },
-        Kind::List { .. } | Kind::Map => Entries {
+        Kind::List { .. } | Kind::Map => Marks {
             offsets: rows + 1,
             ..own
         },
@@ -114,13 +117,13 @@ fn mask_bytes(mask: Option<Part>, rows: usize) -> usize
 }
 
 // What a node needs: itself, its format string, its buffers, and the data buffers that it brings.
-fn draft_needs(parcel: &[u8], d: Draft) -> Entries
-    requires { Drafted parcel.now d }
-    ensures is { listed result ≡ draft_entries parcel.now d }
-    ensures low { AllByRecursion (λ v. v ≤ 281474976710656) (listed result) }
+fn draft_needs(node: SentNode<'_>) -> Marks
+    ensures is { needed result ≡ draft_entries node.entry.parcel.now node.entry.draft }
+    ensures low { AllByRecursion (λ v. v ≤ 281474976710656) (needed result) }
 {
-    let rows = d.head.rows as usize;
-    let new = brought(DataBuffers::of(parcel, d.parts.lent));
+    let rows = node.rows();
+    let new = brought(node.lent());
+    let d = node.draft;
     let base = mask_bytes(d.parts.mask, rows) + d.head.format.len + new.bytes;
     kind_needs(
         d.kind,
@@ -132,36 +135,21 @@ fn draft_needs(parcel: &[u8], d: Draft) -> Entries
     )
 }
 
-fn add(a: Entries, b: Entries) -> Entries
-    requires { (AllByRecursion (λ v. v ≤ 4611686018427387904) (listed a)) × (AllByRecursion (λ v. v ≤ 4611686018427387904) (listed b)) }
-    ensures { listed result ≡ plus (listed a) (listed b) }
-{
-    Entries {
-        columns: a.columns + b.columns,
-        nodes: a.nodes + b.nodes,
-        bytes: a.bytes + b.bytes,
-        twos: a.twos + b.twos,
-        fours: a.fours + b.fours,
-        eights: a.eights + b.eights,
-        offsets: a.offsets + b.offsets,
-        views: a.views + b.views,
-        lists: a.lists + b.lists,
-        buffers: a.buffers + b.buffers,
-        slip: a.slip + b.slip,
-    }
-}
-
 // What the drafts of a parcel need, and one column.
 pub(crate) fn needs(parcel: &[u8], drafts: &[Draft]) -> Entries
     requires { (AllByRecursion (Drafted parcel.now) drafts.now) × (length drafts.now ≤ 256) }
     ensures { listed result ≡ plus one_column (drafts_need parcel.now drafts.now) }
 {
-    let mut total = Entries {
+    let mut total = Marks {
         columns: 1,
-        ..Entries::NONE
+        ..Marks::default()
     };
     for draft in drafts {
-        total = add(total, draft_needs(parcel, *draft));
+        let node = SentNode {
+            parcel,
+            draft: *draft,
+        };
+        total = total + draft_needs(node);
     }
-    total
+    Entries::from(total)
 }

@@ -3,9 +3,11 @@
 // stream itself.
 #![tactic(auto)]
 
+ghost use Rattle.std.specs.Prelude.{◌<◌, length, IfSome};
+
 use pools::pool::Pool;
 use pools::pools::Pools;
-use shelf::blank::{NO_COLUMN, NO_NODE, NO_PART, NO_VIEW};
+use pools::records::{ColumnEntry, Node, Part, View};
 use shelf::owner::Shelf;
 use std::alloc::Global;
 use std::io;
@@ -15,75 +17,77 @@ use wire::serve::serve;
 // The lengths of pools 1 to 11, of the text buffer and of the stream.
 const NUMBERS: usize = 13;
 
-// The number of 32 bits that the bytes begin with; 0 if they are fewer than four.
-fn number(bytes: &[u8]) -> usize {
-    let [a, b, c, d, ..] = bytes else {
-        return 0;
-    };
-    u32::from_be_bytes([*a, *b, *c, *d]) as usize
+#[derive(Clone, Copy)]
+struct Case<'a> {
+    // of pools 1 to 11 and of the text buffer
+    lengths: [usize; 12],
+    stream: &'a [u8],
 }
 
-fn run_case<W: Write>(
-    heap: Global,
-    lengths: &[usize; NUMBERS],
-    mut stream: &[u8],
-    out: &mut W,
-) -> io::Result<()> {
-    let mut columns = vec![in heap; NO_COLUMN; lengths[0]]?;
-    let mut nodes = vec![in heap; NO_NODE; lengths[1]]?;
-    let mut bytes = vec![in heap; 0u8; lengths[2]]?;
-    let mut shorts = vec![in heap; 0u16; lengths[3]]?;
-    let mut words = vec![in heap; 0u32; lengths[4]]?;
-    let mut longs = vec![in heap; 0u64; lengths[5]]?;
-    let mut offsets = vec![in heap; 0u64; lengths[6]]?;
-    let mut views = vec![in heap; NO_VIEW; lengths[7]]?;
-    let mut lists = vec![in heap; 0u32; lengths[8]]?;
-    let mut buffers = vec![in heap; NO_PART; lengths[9]]?;
-    let mut slip = vec![in heap; (0u16, 0u32); lengths[10]]?;
-    let mut text = vec![in heap; 0u8; lengths[11]]?;
+// The numbers of 32 bits that the bytes begin with; 0 for those that are not there.
+fn numbers(bytes: &[u8]) -> [usize; NUMBERS] {
+    let mut numbers = [0; NUMBERS];
+    for (number, four) in numbers.iter_mut().zip(bytes.chunks_exact(4)) {
+        *number = u32::from_be_bytes([four[0], four[1], four[2], four[3]]) as usize;
+    }
+    numbers
+}
+
+// The case that the input begins with, and what comes after it. A stream that is cut off is taken as it is.
+fn split_case<'a>(input: &'a [u8]) -> Option<(Case<'a>, &'a [u8])>
+    ensures { IfSome result (λ split. length split.1.now < length input.now) }
+{
+    if input.len() < 4 * NUMBERS {
+        return None;
+    }
+    let (head, rest) = input.split_at(4 * NUMBERS);
+    let [a, b, c, d, e, f, g, h, i, j, k, text, stream] = numbers(head);
+    let (stream, after) = rest.split_at(stream.min(rest.len()));
+    let lengths = [a, b, c, d, e, f, g, h, i, j, k, text];
+    Some((Case { lengths, stream }, after))
+}
+
+fn run_case<W: Write>(heap: Global, case: Case<'_>, out: &mut W) -> io::Result<()> {
+    let [
+        columns,
+        nodes,
+        bytes,
+        shorts,
+        words,
+        longs,
+        offsets,
+        views,
+        lists,
+        buffers,
+        slip,
+        text,
+    ] = case.lengths;
+    let mut columns = vec![in heap; ColumnEntry::default(); columns]?;
+    let mut nodes = vec![in heap; Node::default(); nodes]?;
+    let mut bytes = vec![in heap; 0u8; bytes]?;
+    let mut shorts = vec![in heap; 0u16; shorts]?;
+    let mut words = vec![in heap; 0u32; words]?;
+    let mut longs = vec![in heap; 0u64; longs]?;
+    let mut offsets = vec![in heap; 0u64; offsets]?;
+    let mut views = vec![in heap; View::default(); views]?;
+    let mut lists = vec![in heap; 0u32; lists]?;
+    let mut buffers = vec![in heap; Part::default(); buffers]?;
+    let mut slip = vec![in heap; (0u16, 0u32); slip]?;
+    let mut text = vec![in heap; 0u8; text]?;
     let pools = Pools {
-        columns: Pool {
-            lent: &mut columns,
-            mark: 0,
-        },
-        nodes: Pool {
-            lent: &mut nodes,
-            mark: 0,
-        },
-        bytes: Pool {
-            lent: &mut bytes,
-            mark: 0,
-        },
-        shorts: Pool {
-            lent: &mut shorts,
-            mark: 0,
-        },
-        words: Pool {
-            lent: &mut words,
-            mark: 0,
-        },
-        longs: Pool {
-            lent: &mut longs,
-            mark: 0,
-        },
-        offsets: Pool {
-            lent: &mut offsets,
-            mark: 0,
-        },
-        views: Pool {
-            lent: &mut views,
-            mark: 0,
-        },
-        lists: Pool {
-            lent: &mut lists,
-            mark: 0,
-        },
-        buffers: Pool {
-            lent: &mut buffers,
-            mark: 0,
-        },
+        columns: Pool::from(columns.as_mut_slice()),
+        nodes: Pool::from(nodes.as_mut_slice()),
+        bytes: Pool::from(bytes.as_mut_slice()),
+        shorts: Pool::from(shorts.as_mut_slice()),
+        words: Pool::from(words.as_mut_slice()),
+        longs: Pool::from(longs.as_mut_slice()),
+        offsets: Pool::from(offsets.as_mut_slice()),
+        views: Pool::from(views.as_mut_slice()),
+        lists: Pool::from(lists.as_mut_slice()),
+        buffers: Pool::from(buffers.as_mut_slice()),
     };
     let mut shelf = Shelf::new(pools, &mut slip);
+    let mut stream = case.stream;
     serve(heap, &mut stream, out, &mut shelf, &mut text)
 }
 
@@ -91,18 +95,11 @@ fn main(rt: HostRuntime) -> io::Result<()> {
     let heap = rt.alloc();
     let mut held = Vec::new(heap);
     rt.stdin().read_to_end(&mut held)?;
-    let input = held.as_slice();
-    let mut at = 0;
-    while at + 4 * NUMBERS <= input.len() {
-        let mut numbers = [0usize; NUMBERS];
-        for i in 0..NUMBERS {
-            numbers[i] = number(&input[at + 4 * i..input.len()]);
-        }
-        let start = at + 4 * NUMBERS;
-        let end = start + numbers[12].min(input.len() - start);
-        run_case(heap, &numbers, &input[start..end], &mut rt.stdout())?;
+    let mut input = held.as_slice();
+    while let Some((case, after)) = split_case(input) {
+        run_case(heap, case, &mut rt.stdout())?;
         println!(rt; "--")?;
-        at = end;
+        input = after;
     }
     Ok(())
 }

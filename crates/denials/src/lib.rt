@@ -5,6 +5,7 @@ ghost use Rattle.std.specs.Prelude.{◌≡◌, Some};
 ghost use Rattle.denials.specs.Said.{said, number_of, detail_of};
 ghost use Rattle.denials.specs.Worded.{words, sentence};
 
+use std::error::Error;
 use std::fmt;
 
 #[derive(Clone, Copy, PartialEq, Eq, Debug)]
@@ -62,19 +63,19 @@ impl Denial {
         ensures { result ≡ detail_of (said self) }
     {
         match self {
-            Denial::Ends(at) => at as u64,
-            Denial::Unknown(node) => node as u64,
-            Denial::Misplaced(node) => node as u64,
-            Denial::Unsound(node) => node as u64,
-            Denial::Count(count) => count as u64,
-            Denial::Unlike(position) => position as u64,
-            Denial::Outside(place) => place as u64,
+            Denial::Ends(n)
+            | Denial::Unknown(n)
+            | Denial::Misplaced(n)
+            | Denial::Unsound(n)
+            | Denial::Count(n)
+            | Denial::Unlike(n)
+            | Denial::Outside(n)
+            | Denial::Rows(n)
+            | Denial::Text(n)
+            | Denial::Missing(n)
+            | Denial::Full(n) => n as u64,
             Denial::Total(total) => total,
-            Denial::Rows(rows) => rows as u64,
-            Denial::Text(room) => room as u64,
-            Denial::NoColumn(column) => column as u64,
-            Denial::Missing(buffer) => buffer as u64,
-            Denial::Full(pool) => pool as u64,
+            Denial::NoColumn(column) => u64::from(column),
         }
     }
 
@@ -110,3 +111,5 @@ impl fmt::Display for Denial {
         write!(f, "{words}{detail}")
     }
 }
+
+impl Error for Denial {}

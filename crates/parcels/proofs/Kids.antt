@@ -18,7 +18,7 @@ use Rattle.columns.specs.Sent as rules_sent
 use Rattle.columns.specs.Heads as rules_heads
 use Rattle.parcels.specs.declared.draft.Place.{Place}
 use Rattle.parcels.specs.declared.draft.Head.{Head}
-use Rattle.parcels.specs.declared.draft.Parts.{Parts}
+use Rattle.parcels.specs.declared.begin.Opened.{Opened}
 use Rattle.parcels.specs.declared.draft.Role.{Role}
 use Rattle.parcels.specs.declared.draft.Below.{Below}
 use Rattle.parcels.specs.declared.draft.Draft.{Draft}
@@ -26,7 +26,7 @@ use Rattle.columns.specs.Says.{span}
 use Rattle.parcels.specs.Drafts.{kind_sound_by, below_more, below_of, checks_in, node_in, preorder, preorders, Traced, FoundAs, FoundInside, Drafted}
 use Rattle.std.proofs.ByRecursion.{All-append}
 use Rattle.parcels.specs.Opens.{OpenedAs, OpenedInside}
-use Rattle.parcels.specs.Reads.{placed, head_of, sent_of, within, Fair}
+use Rattle.parcels.specs.Reads.{placed, head_of, sent_of, within}
 use Rattle.parcels.specs.Roles.{role_of, free_role, head_with}
 use Rattle.formats.specs.Spelled.{told, format_meant, Meaning}
 use Rattle.formats.specs.declared.format.Format.{Format}
@@ -48,7 +48,6 @@ pub record Kids (parcel : List ℕ) (before levels : ℕ) (R : List rules_heads.
   pub traced : Traced parcel before bs p.nodes (between p.nodes here.nodes D) (flat_map (λ (x : Found). x.checks) fs) (preorders (columns_from fs)) held
 
 pub record KidsInside (parcel : List ℕ) (p here : Place) (old new : List Draft) : Type 0 where
-  pub fair : Fair parcel here
   pub some : p.nodes ≤ here.nodes
   pub few : here.nodes ≤ 256
   pub kept : take p.nodes new ≡ take p.nodes old
@@ -108,7 +107,6 @@ module _ (parcel : List ℕ) (before levels : ℕ) (R : List rules_heads.Role) (
 pub inside_more : (parcel : List ℕ) (p here q : Place) (old D E : List Draft) → here.nodes ≤ length E → KidsInside parcel p here old D → FoundInside parcel here q D E → KidsInside parcel p q old E
 inside_more parcel p here q old D E le I J =
     record {
-      fair = J.fair;
       some = omega arith;
       few = J.few;
       kept = sym (take-take p.nodes here.nodes E I.some) ∙ ap (take p.nodes) J.kept ∙ take-take p.nodes here.nodes D I.some ∙ I.kept;
@@ -117,27 +115,27 @@ inside_more parcel p here q old D E le I J =
           (All-append (Drafted parcel) (between p.nodes here.nodes D) (between here.nodes q.nodes E) I.good J.good);
     }
 
-pub inside_start : (parcel : List ℕ) (p : Place) (D : List Draft) → Fair parcel p → p.nodes ≤ 256 → KidsInside parcel p p D D
-inside_start parcel p D f n =
-    record { fair = f; some = omega arith; few = n; kept = refl; good = subst (AllByRecursion (Drafted parcel)) (sym (between_none D p.nodes)) tt }
+pub inside_start : (parcel : List ℕ) (p : Place) (D : List Draft) → p.nodes ≤ 256 → KidsInside parcel p p D D
+inside_start parcel p D n =
+    record { some = omega arith; few = n; kept = refl; good = subst (AllByRecursion (Drafted parcel)) (sym (between_none D p.nodes)) tt }
 
 -- the node whole
-module _ (parcel : List ℕ) (before levels : ℕ) (p q : Place) (bs : List (List ℕ)) (code : Code) (role : Role) (h : Head) (x : Parts) (o : OpenedAs parcel p bs levels (role_of role) h x q) (n : q.nodes ≡ p.nodes + 1) where
+module _ (parcel : List ℕ) (before levels : ℕ) (p q : Place) (bs : List (List ℕ)) (code : Code) (role : Role) (x : Opened) (o : OpenedAs parcel p bs levels (role_of role) x q) (n : q.nodes ≡ p.nodes + 1) where
   abbrev F : rules_heads.Head
-  F = head_of parcel h
+  F = head_of parcel x.head
 
   abbrev J : Kind
   J = kind_of F.format
 
   abbrev S : rules_sent.Sent
-  S = sent_of parcel x o.ds
+  S = sent_of parcel x.parts o.ds
 
   pub node_denied : (d : checks.Denial) → each_of (node_read before (levels - 1)) (roles J F) (placed parcel q o.after) ≡ denied d → node_read before levels (role_of role) (placed parcel p bs) ≡ denied d
   node_denied d e = o.is before ∙ ap (λ (m : Outcome (List Found)). onward m (λ kids. give (found_node before (role_of role) J F S (q.nodes - 1) o.after kids))) e
 
-  module _ (here : Place) (below : Below) (D : List Draft) (k : ℕ) (K : Kids parcel before (levels - 1) (roles J F) q o.after h.rows k here below D) (c : h.children ≡ length (roles J F)) (e : k ≡ h.children) (old : List Draft) (I : KidsInside parcel q here old D) (big : 256 ≤ length D) where
+  module _ (here : Place) (below : Below) (D : List Draft) (k : ℕ) (K : Kids parcel before (levels - 1) (roles J F) q o.after x.head.rows k here below D) (c : x.head.children ≡ length (roles J F)) (e : k ≡ x.head.children) (old : List Draft) (I : KidsInside parcel q here old D) (big : 256 ≤ length D) where
     abbrev me : Draft
-    me = record { kind = code; role = role; head = h; parts = x; below = below }
+    me = record { kind = code; role = role; head = x.head; parts = x.parts; below = below }
 
     abbrev whole : Found
     whole = found_node before (role_of role) J F S (q.nodes - 1) o.after K.fs
@@ -156,7 +154,7 @@ module _ (parcel : List ℕ) (before levels : ℕ) (p q : Place) (bs : List (Lis
         (sound_is J o.after (node_from J F S) K.fs ∙ ap (λ (b : Below). kind_sound_by o.after J (node_from J F S) b) (sym K.belows))
         ∙ ap (λ (m : ℕ). (12, first_failing (λ (b : ℕ). ltb b before) (named_before before o.ds)) ∷ (4, unless (fills J F S && role_sound (role_of role) (node_from J F S) && kind_sound_by o.after J (node_from J F S) below) m) ∷ []) number
 
-    pub node_found : FoundAs parcel before p bs levels (role_of role) h.rows here (set D p.nodes me)
+    pub node_found : FoundAs parcel before p bs levels (role_of role) x.head.rows here (set D p.nodes me)
     unfolding preorder
     node_found =
         record {
@@ -167,12 +165,12 @@ module _ (parcel : List ℕ) (before levels : ℕ) (p q : Place) (bs : List (Lis
           same_rows = refl;
           traced = traced_at parcel before bs K.held p.nodes (between p.nodes here.nodes (set D p.nodes me)) (me ∷ between (p.nodes + 1) here.nodes D)
               whole.checks (checks_in parcel before p.nodes me o.ds o.after ++ flat_map (λ (y : Found). y.checks) K.fs)
-              (preorder whole.found) ((node_in parcel me o.ds, h.children) ∷ preorders (columns_from K.fs))
+              (preorder whole.found) ((node_in parcel me o.ds, x.head.children) ∷ preorders (columns_from K.fs))
               (between_set D p.nodes here.nodes me (omega arith) (omega arith))
               (ap (λ (l : List Check). l ++ flat_map (λ (y : Found). y.checks) K.fs) same_checks)
               (ap (λ (m : ℕ). (node_from J F S, m) ∷ preorders (columns_from K.fs)) (width_is K.fs ∙ K.counts ∙ e))
               (traced_node parcel before bs o.after K.held p.nodes me (between (p.nodes + 1) here.nodes D) o.ds (placed parcel q o.after) _ _
-              (ap (λ (m : ℕ). each_of (λ (i : ℕ). rules_sent.data_buffer) (span 0 x.lent.len) (placed parcel (record { at = x.lent.start; nodes = m; brought = 0 }) bs)) (sym n) ∙ o.listed)
+              (ap (λ (m : ℕ). each_of (λ (i : ℕ). rules_sent.data_buffer) (span 0 x.parts.lent.len) (placed parcel (record { at = x.parts.lent.start; nodes = m; brought = 0 }) bs)) (sym n) ∙ o.listed)
               refl
               (subst (λ (m : ℕ). Traced parcel before o.after m (between m here.nodes D) (flat_map (λ (y : Found). y.checks) K.fs) (preorders (columns_from K.fs)) K.held) n K.traced));
         }
@@ -188,7 +186,6 @@ child_is parcel h f k r m g l =
 pub found_inside : (parcel : List ℕ) (p q here : Place) (old D : List Draft) (d : Draft) → q.nodes ≡ p.nodes + 1 → p.nodes < length D → Drafted parcel d → KidsInside parcel q here old D → FoundInside parcel p here old (set D p.nodes d)
 found_inside parcel p q here old D d n le g I =
     record {
-      fair = I.fair;
       some = omega arith;
       few = I.few;
       kept = take-set D p.nodes d ∙ sym (take-take p.nodes q.nodes D (omega arith)) ∙ ap (take p.nodes) I.kept ∙ take-take p.nodes q.nodes old (omega arith);
@@ -196,15 +193,15 @@ found_inside parcel p q here old D d n le g I =
           (g, subst (λ (m : ℕ). AllByRecursion (Drafted parcel) (between m here.nodes D)) n I.good);
     }
 
-pub drafted : (parcel : List ℕ) (p q : Place) (levels : ℕ) (code : Code) (role : Role) (h : Head) (f : Format) (x : Parts) (b : Below) → OpenedInside parcel p levels h f x q
-    → OpenedAs parcel p [] levels (role_of role) h x q → layout code ≡ (format_meant f).kind → offset_width code ≡ (format_meant f).offset → Drafted parcel (record { kind = code; role = role; head = h; parts = x; below = b })
-drafted parcel p q levels code role h f x b i s k o =
+pub drafted : (parcel : List ℕ) (p q : Place) (levels : ℕ) (code : Code) (role : Role) (x : Opened) (b : Below) → OpenedInside parcel p levels x q → OpenedAs parcel p [] levels (role_of role) x q
+    → layout code ≡ (format_meant x.format).kind → offset_width code ≡ (format_meant x.format).offset → Drafted parcel (record { kind = code; role = role; head = x.head; parts = x.parts; below = b })
+drafted parcel p q levels code role x b i s k o =
     record {
       parts = i.parts;
       head = i.head;
       name = i.name;
       rows = i.rows;
-      lent = read_readable parcel x.lent.len x.lent.start q.nodes [] s.ds (placed parcel q s.after) i.parts.lent s.listed;
+      lent = read_readable parcel x.parts.lent.len x.parts.lent.start q.nodes [] s.ds (placed parcel q s.after) i.parts.lent s.listed;
       layout = k ∙ ap (λ (m : Meaning). m.kind) i.format;
       offsets = o ∙ ap (λ (m : Meaning). m.offset) i.format;
     }

@@ -185,7 +185,7 @@ module _ (parcel : List ℕ) (p : Place) (bs : List (List ℕ)) where
           begin_cut before d e =
               denied_buffers before levels role (placed parcel p bs) (head_of parcel h) (placed parcel q bs) headed known (allows levels role ∙ a) begin_facts.deep d (bufs ∙ e)
 
-          pub begin_opened : (x : Parts) (r : Place) → q.brought ≡ p.brought → SentAs parcel q bs x r (parts_read h.masked sent.0 sent.1 sent.2 (placed parcel q bs)) → OpenedAs parcel p bs levels role h x r
+          pub begin_opened : (x : Parts) (r : Place) → q.brought ≡ p.brought → SentAs parcel q bs x r (parts_read h.masked sent.0 sent.1 sent.2 (placed parcel q bs)) → OpenedAs parcel p bs levels role (record { head = h; format = f; parts = x }) r
           begin_opened x r b g =
               record {
                 ds = g.ds;

@@ -1,13 +1,13 @@
-use Rattle.std.proofs.Common.{◌≡◌, ℕ, ◌+◌, ◌-◌, ◌<◌, ◌≤◌, Bool, true, List, [], ◌∷◌, ◌++◌, length, take, drop, sym, refl, ap, ◌∙◌, arith}
+use Rattle.std.proofs.Common.{◌≡◌, ℕ, ◌+◌, ◌<◌, ◌≤◌, Bool, true, List, [], ◌∷◌, ◌++◌, length, take, drop, sym, refl, ap, ◌∙◌, arith}
 use Rattle.columns.specs.Checks as checks
 use Rattle.columns.specs.Says.{span}
-use Rattle.columns.specs.Reading.{Outcome, denied, onward, each_of, big_endian, Reading}
-use Rattle.columns.specs.Sent.{Data, data_buffer, data_buffers}
+use Rattle.columns.specs.Reading.{Outcome, denied, onward, each_of, give, big_endian, Reading}
+use Rattle.columns.specs.Sent.{Data, Sent, data_buffer, data_buffers}
 use Rattle.parcels.specs.declared.draft.Place.{Place}
-use Rattle.parcels.specs.Reads.{placed, Reaches, LentAs, stepped}
+use Rattle.parcels.specs.declared.draft.Parts.{Parts}
+use Rattle.parcels.specs.Reads.{placed, sent_of, Reaches, LentAs, SentAs, stepped}
 use Rattle.columns.specs.Checks.{denial}
-use Rattle.std.proofs.lemmas.List.{take_rest}
-use Rattle.parcels.proofs.Reading.{item_short, item_long}
+use Rattle.parcels.proofs.Reading.{item_long}
 use Rattle.parcels.proofs.Along.{Left, left_start, left_more, left_denied, left_all, length_span}
 
 pub record Walked (parcel : List ℕ) (p : Place) (bs : List (List ℕ)) (n k : ℕ) (q : Place) : Type 0 where
@@ -46,16 +46,13 @@ module _ (parcel : List ℕ) (p : Place) (bs : List (List ℕ)) where
   abbrev counted_on : List ℕ → Reading (List Data)
   counted_on c = each_of (λ (i : ℕ). data_buffer) (span 0 (big_endian c))
 
-  pub lent_short : (w : Bool) → w ≡ true → p.at ≤ length parcel → length parcel < p.at + 2 → data_buffers w (placed parcel p bs) ≡ denied (denial 1 p.at)
-  lent_short w t i h = rw t (ap (λ (o : Outcome (List ℕ)). onward o counted_on) (item_short parcel p bs 2 i h))
-
-  pub lent_open : (w : Bool) (n : ℕ) (q : Place) → w ≡ true → n ≡ big_endian (take 2 (take (length parcel - p.at) (drop p.at parcel))) → q ≡ stepped p 2 → p.at + 2 ≤ length parcel
+  pub lent_open : (w : Bool) (n : ℕ) (q : Place) → w ≡ true → n ≡ big_endian (take 2 (drop p.at parcel)) → q ≡ stepped p 2 → p.at + 2 ≤ length parcel
       → data_buffers w (placed parcel p bs) ≡ each_of (λ (i : ℕ). data_buffer) (span 0 n) (placed parcel q bs)
   lent_open w n q t e s h =
       rw (t, s) (ap (λ (o : Outcome (List ℕ)). onward o counted_on) (item_long parcel p bs 2 h)
-      ∙ ap (λ (m : ℕ). each_of (λ (i : ℕ). data_buffer) (span 0 m) (placed parcel (stepped p 2) bs)) (sym (e ∙ ap (λ (l : List ℕ). big_endian (take 2 l)) (take_rest parcel p.at))))
+      ∙ ap (λ (m : ℕ). each_of (λ (i : ℕ). data_buffer) (span 0 m) (placed parcel (stepped p 2) bs)) (sym e))
 
-  pub lent_told : (w : Bool) (n : ℕ) (q r : Place) → w ≡ true → n ≡ big_endian (take 2 (take (length parcel - p.at) (drop p.at parcel))) → q ≡ stepped p 2 → p.at + 2 ≤ length parcel
+  pub lent_told : (w : Bool) (n : ℕ) (q r : Place) → w ≡ true → n ≡ big_endian (take 2 (drop p.at parcel)) → q ≡ stepped p 2 → p.at + 2 ≤ length parcel
       → r.nodes ≡ q.nodes
       → Reaches parcel q bs r (each_of (λ (i : ℕ). data_buffer) (span 0 n) (placed parcel q bs))
       → LentAs parcel p bs (record { start = q.at; len = n }) r (data_buffers w (placed parcel p bs))
@@ -67,3 +64,15 @@ module _ (parcel : List ℕ) (p : Place) (bs : List (List ℕ)) where
         listed = ap (λ (m : ℕ). each_of (λ (i : ℕ). data_buffer) (span 0 n) (record { passed = q.at; ahead = drop q.at parcel; nodes = m; buffers = bs })) k ∙ g.is;
         counted = omega (arith, g.counted, ap (λ (x : Place). x.brought) s);
       }
+
+-- the buffers of a node, when all but its data buffers are read
+pub sent_told : (parcel : List ℕ) (p r q : Place) (bs : List (List ℕ)) (x : Parts) (d : Bool) (o : Outcome Sent) → r.brought ≡ p.brought
+    → o ≡ onward (data_buffers d (placed parcel r bs)) (λ ds. give (sent_of parcel x ds)) → LentAs parcel r bs x.lent q (data_buffers d (placed parcel r bs)) → SentAs parcel p bs x q o
+sent_told parcel p r q bs x d o k e g =
+    record {
+      ds = g.ds;
+      after = g.after;
+      is = e ∙ ap (λ (m : Outcome (List Data)). onward m (λ ds. give (sent_of parcel x ds))) g.is;
+      listed = g.listed;
+      counted = omega (arith, g.counted);
+    }

@@ -18,7 +18,7 @@ use Rattle.columns.specs.Sent as rules_sent
 use Rattle.parcels.specs.declared.draft.Place.{Place}
 use Rattle.parcels.specs.declared.draft.Below.{Below}
 use Rattle.parcels.specs.declared.draft.Draft.{Draft}
-use Rattle.parcels.specs.Reads.{placed, head_of, sent_of, Fair, Inside, Within}
+use Rattle.parcels.specs.Reads.{placed, head_of, sent_of, Inside, Within}
 use Rattle.parcels.specs.Roles.{role_of}
 use Rattle.columns.specs.Limits.{most_rows}
 use Rattle.parcels.specs.Lent.{readable}
@@ -140,7 +140,6 @@ pub record FoundAs (parcel : List ℕ) (before : ℕ) (p : Place) (bs : List (Li
   pub traced : Traced parcel before bs p.nodes (between p.nodes q.nodes drafts) f.checks (preorder f.found) after
 
 pub record FoundInside (parcel : List ℕ) (p q : Place) (old new : List Draft) : Type 0 where
-  pub fair : Fair parcel q
   pub some : p.nodes < q.nodes
   pub few : q.nodes ≤ 256
   pub kept : take p.nodes new ≡ take p.nodes old

@@ -9,10 +9,8 @@ use Rattle.columns.specs.Heads.{roles}
 use Rattle.columns.specs.Heads as rules_heads
 use Rattle.columns.specs.Sent as rules_sent
 use Rattle.parcels.specs.declared.draft.Place.{Place}
-use Rattle.parcels.specs.declared.draft.Parts.{Parts}
-use Rattle.parcels.specs.declared.draft.Head.{Head}
-use Rattle.formats.specs.declared.format.Format.{Format}
-use Rattle.parcels.specs.Reads.{placed, within, head_of, sent_of, Listed, Fair, Inside, Within}
+use Rattle.parcels.specs.declared.begin.Opened.{Opened}
+use Rattle.parcels.specs.Reads.{placed, within, head_of, sent_of, Listed, Inside, Within}
 use Rattle.formats.specs.Spelled.{format_meant, told}
 
 -- the children, and then the node as found
@@ -20,21 +18,20 @@ abbrev pub kids_read : (before levels : ℕ) → rules_heads.Role → rules_head
 kids_read before levels role h s p =
     onward (each_of (node_read before levels) (roles (kind_of h.format) h) p) (λ kids. give (found_node before role (kind_of h.format) h s (p.nodes - 1) p.buffers kids))
 
-pub record OpenedAs (parcel : List ℕ) (p : Place) (bs : List (List ℕ)) (levels : ℕ) (role : rules_heads.Role) (h : Head) (x : Parts) (q : Place) : Type 0 where
+pub record OpenedAs (parcel : List ℕ) (p : Place) (bs : List (List ℕ)) (levels : ℕ) (role : rules_heads.Role) (x : Opened) (q : Place) : Type 0 where
   pub ds : List Data
   pub after : List (List ℕ)
-  pub is : (before : ℕ) → node_read before levels role (placed parcel p bs) ≡ kids_read before (levels - 1) role (head_of parcel h) (sent_of parcel x ds) (placed parcel q after)
-  pub listed : Listed parcel (record { at = x.lent.start; nodes = q.nodes; brought = p.brought }) bs x.lent.len ds q after
+  pub is : (before : ℕ) → node_read before levels role (placed parcel p bs) ≡ kids_read before (levels - 1) role (head_of parcel x.head) (sent_of parcel x.parts ds) (placed parcel q after)
+  pub listed : Listed parcel (record { at = x.parts.lent.start; nodes = q.nodes; brought = p.brought }) bs x.parts.lent.len ds q after
   pub counted : length after + p.brought ≡ length bs + q.brought
 
-pub record OpenedInside (parcel : List ℕ) (p : Place) (levels : ℕ) (h : Head) (f : Format) (x : Parts) (q : Place) : Type 0 where
-  pub parts : Inside parcel x
-  pub head : Within parcel h.format
-  pub name : h.format.len < 128
-  pub rows : h.rows ≤ most_rows
-  pub fair : Fair parcel q
+pub record OpenedInside (parcel : List ℕ) (p : Place) (levels : ℕ) (x : Opened) (q : Place) : Type 0 where
+  pub parts : Inside parcel x.parts
+  pub head : Within parcel x.head.format
+  pub name : x.head.format.len < 128
+  pub rows : x.head.rows ≤ most_rows
   pub nodes : q.nodes ≡ p.nodes + 1
   pub few : q.nodes ≤ 256
   pub deep : 0 < levels
-  pub format : format_meant f ≡ told (within parcel h.format)
-  pub children : h.children ≡ length (roles (kind_of (within parcel h.format)) (head_of parcel h))
+  pub format : format_meant x.format ≡ told (within parcel x.head.format)
+  pub children : x.head.children ≡ length (roles (kind_of (within parcel x.head.format)) (head_of parcel x.head))

@@ -1,5 +1,5 @@
 -- How the program's places, parts and heads are those of the rules.
-use Rattle.std.specs.Prelude.{◌≡◌, ℕ, ◌+◌, ◌*◌, ◌%◌, ◌<◌, ◌≤◌, Bool, List, length, take, drop, Some, None, Ok, Err, Option, Result, nat_le, slice_index}
+use Rattle.std.specs.Prelude.{◌≡◌, ℕ, ◌+◌, ◌<◌, ◌≤◌, Bool, List, length, take, drop, Some, None, Ok, Err, Option, Result}
 use Rattle.columns.specs.Reading.{Outcome, denied, reached, Reading, give, ◌>>=◌, each_of}
 use Rattle.columns.specs.Sent.{Data, mask_if, buffer_if, data_buffers, data_buffer, brought, named}
 use Rattle.columns.specs.Says.{span}
@@ -11,7 +11,6 @@ use Rattle.denials.specs.declared.Denial.{Denial}
 use Rattle.denials.specs.Said.{said}
 use Rattle.parcels.specs.declared.draft.Place.{Place}
 use Rattle.pools.specs.declared.records.Part.{Part}
-use Rattle.parcels.specs.declared.draft.Header.{Header}
 use Rattle.parcels.specs.declared.draft.Parts.{Parts}
 use Rattle.parcels.specs.declared.draft.Head.{Head}
 
@@ -28,30 +27,12 @@ abbrev pub outcome : {T A : Type 0} → (T → A) → (T → rules_reading.Place
 outcome value place (Ok t) = reached (value t) (place t)
 outcome value place (Err d) = denied (said d)
 
-pub record HeaderSays (bytes : List ℕ) (h : Header) : Type 0 where
-  pub masked : h.masked ≡ nat_le 128 (slice_index bytes 0)
-  pub format : h.format ≡ slice_index bytes 0 % 128
-  pub label : h.label ≡ 256 * slice_index bytes 1 + slice_index bytes 2
-  pub children : h.children ≡ slice_index bytes 3
-  pub rows : h.rows ≡ 16777216 * slice_index bytes 4 + 65536 * slice_index bytes 5 + 256 * slice_index bytes 6 + slice_index bytes 7
-
 abbrev pub head_of : List ℕ → Head → rules_heads.Head
 head_of parcel h = record { masked = h.masked; format = within parcel h.format; label = h.label; child_count = h.children; rows = h.rows }
 
 abbrev pub mask_of : List ℕ → Option Part → math.Option (List ℕ)
 mask_of parcel None = math.none
 mask_of parcel (Some p) = math.some (within parcel p)
-
--- a place within the parcel; a brought buffer takes bytes
-pub record Fair (parcel : List ℕ) (p : Place) : Type 0 where
-  pub inside : p.at ≤ length parcel
-  pub few : p.brought ≤ p.at
-
--- after buffers that are not data buffers
-pub record Kept (parcel : List ℕ) (p q : Place) : Type 0 where
-  pub fair : Fair parcel q
-  pub nodes : q.nodes ≡ p.nodes
-  pub brought : q.brought ≡ p.brought
 
 -- the reading gives something, and ends at the place q, with as many buffers more as q has
 pub record Reaches {A : Type 0} (parcel : List ℕ) (p : Place) (bs : List (List ℕ)) (q : Place) (o : Outcome A) : Type 0 where
@@ -92,6 +73,11 @@ Within parcel x = x.start + x.len ≤ length parcel
 abbrev pub MaskWithin : List ℕ → Option Part → Type 0
 MaskWithin parcel None = Unit {0}
 MaskWithin parcel (Some x) = Within parcel x
+
+-- the part, or an empty one
+abbrev pub or_empty : Option Part → Part
+or_empty None = record { start = 0; len = 0 }
+or_empty (Some x) = x
 
 -- the parts lie in the parcel, and are as short as their lengths can say
 pub record Inside (parcel : List ℕ) (x : Parts) : Type 0 where

@@ -1,26 +1,29 @@
-ghost use Rattle.std.specs.Prelude.{◌≡◌, ℕ, ◌+◌, ◌-◌, ◌*◌, ◌%◌, ◌<◌, ◌≤◌, not, ◌&&◌, List, length, slice_index_or};
+// What is asked of a node before its buffers are read, and what its children are to it.
+ghost use Rattle.std.specs.Prelude.{◌≡◌, ℕ, ◌<◌, not, ◌&&◌, length, slice_index_or};
 ghost use Rattle.columns.specs.Kinds.{is_run_ended};
 ghost use Rattle.columns.specs.Sent.{sends as sendsOf};
-ghost use Rattle.columns.specs.Heads.{roles as roles_of, mask_allowed};
-ghost use Rattle.columns.specs.Heads.{allowed as allowedBy};
+ghost use Rattle.columns.specs.Heads.{roles as roles_of};
 ghost use Rattle.formats.specs.Spelled.{format_meant};
 ghost use Rattle.parcels.specs.Roles.{role_of, head_with, role_meant, allowed_meant, free_role};
 
-use crate::draft::{Head, Role};
+use crate::draft::{Head, Role, Sends};
 use formats::format::{Family, Format, Width};
 
+const MOST_ROWS: u32 = 1_048_576;
+
+const MOST_NODES: usize = 256;
+
 // Whether a kind has a first buffer after its mask, a text buffer and data buffers.
-pub fn sends(format: Format) -> (bool, bool, bool)
-    ensures { result ≡ sendsOf (format_meant format.entry).kind }
+pub fn sends(format: Format) -> Sends
+    ensures { (result.body, result.text, result.lent) ≡ sendsOf (format_meant format.entry).kind }
 {
-    match format {
-        Format::Primitive(_, _) | Format::Timestamp { .. } | Format::Boolean => (
-            true, false, false,
+    Sends {
+        body: !matches!(
+            format,
+            Format::Struct | Format::RunEnds | Format::FixedList(_)
         ),
-        Format::Text { .. } => (true, true, false),
-        Format::View => (true, false, true),
-        Format::List { .. } | Format::Map => (true, false, false),
-        Format::Struct | Format::RunEnds | Format::FixedList(_) => (false, false, false),
+        text: matches!(format, Format::Text { .. }),
+        lent: matches!(format, Format::View),
     }
 }
 
@@ -43,39 +46,30 @@ fn children_of(format: Format, said: u8) -> u8
 fn mask_fits(format: Format, masked: bool) -> bool
     ensures { result ≡ not (is_run_ended (format_meant format.entry).kind && masked) }
 {
-    match format {
-        Format::RunEnds => !masked,
-        _ => true,
-    }
+    !(masked && matches!(format, Format::RunEnds))
 }
 
 fn can_end(format: Format) -> bool
     ensures { result ≡ (format_meant format.entry).ends }
 {
-    match format {
-        Format::Primitive(Family::Signed, width) => match width {
-            Width::One => false,
-            _ => true,
-        },
-        _ => false,
-    }
+    matches!(
+        format,
+        Format::Primitive(Family::Signed, Width::Two | Width::Four | Width::Eight)
+    )
 }
 
 fn is_struct(format: Format) -> bool
     ensures { result ≡ (format_meant format.entry).struct }
 {
-    match format {
-        Format::Struct => true,
-        _ => false,
-    }
+    matches!(format, Format::Struct)
 }
 
-fn role_fits(role: Role, format: Format, masked: bool, children: u8) -> bool
-    ensures { result ≡ role_meant (role_of role) (format_meant format.entry) masked children }
+fn role_fits(role: Role, format: Format, h: Head) -> bool
+    ensures { result ≡ role_meant (role_of role) (format_meant format.entry) h.masked h.children }
 {
     match role {
-        Role::Ends(_) => can_end(format) && !masked,
-        Role::Entries => is_struct(format) && children == 2,
+        Role::Ends(_) => can_end(format) && !h.masked,
+        Role::Entries => is_struct(format) && h.children == 2,
         Role::Free => true,
     }
 }
@@ -97,8 +91,8 @@ pub fn allowed(levels: u8, role: Role, format: Format, h: Head, nodes: usize) ->
 {
     h.children == children_of(format, h.children)
         && mask_fits(format, h.masked)
-        && role_fits(role, format, h.masked, h.children)
-        && h.rows <= 1048576
-        && nodes <= 256
+        && role_fits(role, format, h)
+        && h.rows <= MOST_ROWS
+        && nodes <= MOST_NODES
         && levels > 0
 }

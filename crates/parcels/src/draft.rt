@@ -2,24 +2,14 @@ use formats::kind::Kind;
 use pools::records::Part;
 
 // Where a reading stands: the byte, the nodes begun, the data buffers brought.
-#[derive(Clone, Copy)]
+#[derive(Clone, Copy, PartialEq, Eq, Debug, Default)]
 pub struct Place {
     pub at: usize,
     pub nodes: usize,
     pub brought: usize,
 }
 
-// What the eight bytes of a header say, and how long the format is.
-#[derive(Clone, Copy)]
-pub struct Header {
-    pub masked: bool,
-    pub format: usize,
-    pub label: u16,
-    pub children: u8,
-    pub rows: u32,
-}
-
-#[derive(Clone, Copy)]
+#[derive(Clone, Copy, PartialEq, Eq, Debug, Default)]
 pub struct Head {
     pub masked: bool,
     pub format: Part,
@@ -29,15 +19,16 @@ pub struct Head {
 }
 
 // What a node is to its parent: the run ends of a node of so many rows, a map's entries, or anything else.
-#[derive(Clone, Copy)]
+#[derive(Clone, Copy, PartialEq, Eq, Debug, Default)]
 pub enum Role {
     Ends(u32),
     Entries,
+    #[default]
     Free,
 }
 
 // A node's buffers: where they lie, and where the data buffers start, with their count.
-#[derive(Clone, Copy)]
+#[derive(Clone, Copy, PartialEq, Eq, Debug, Default)]
 pub struct Parts {
     pub mask: Option<Part>,
     pub body: Part,
@@ -45,8 +36,16 @@ pub struct Parts {
     pub lent: Part,
 }
 
+// Which buffers a node sends after its mask: a first one, a text buffer, data buffers.
+#[derive(Clone, Copy, PartialEq, Eq, Debug)]
+pub struct Sends {
+    pub body: bool,
+    pub text: bool,
+    pub lent: bool,
+}
+
 // What a node's children have: the rows of the first and of the second, and whether all have the node's rows.
-#[derive(Clone, Copy)]
+#[derive(Clone, Copy, PartialEq, Eq, Debug, Default)]
 pub struct Below {
     pub first: u32,
     pub second: u32,
@@ -54,7 +53,7 @@ pub struct Below {
 }
 
 // A node of the parcel, before it is checked.
-#[derive(Clone, Copy)]
+#[derive(Clone, Copy, PartialEq, Eq, Debug, Default)]
 pub struct Draft {
     pub kind: Kind,
     pub role: Role,

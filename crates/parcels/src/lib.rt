@@ -2,9 +2,10 @@
 #![tactic(auto)]
 
 pub mod allow;
-pub mod begin;
+mod begin;
 pub mod draft;
 pub mod items;
 pub mod node;
-pub mod opened;
-pub mod parts;
+mod parts;
+mod reader;
+pub mod sent;

@@ -1,158 +1,107 @@
-ghost use Rattle.std.specs.Prelude.{◌≡◌, ℕ, ◌+◌, ◌-◌, ◌*◌, ◌%◌, ◌<◌, ◌≤◌, List, length, take, Some, None, Ok, Err};
-ghost use Rattle.columns.specs.Reading.{denied, each_of, big_endian};
-ghost use Rattle.columns.specs.Sent.{buffer_if, mask_if, data_buffer, data_buffers};
+// The buffers of a node.
+ghost use Rattle.std.specs.Prelude.{◌≡◌, ℕ, ◌<◌, ◌≤◌, List, length, Ok, Err};
+ghost use Rattle.columns.specs.Reading.{denied, each_of};
+ghost use Rattle.columns.specs.Sent.{mask_if, buffer_if, data_buffer, data_buffers};
 ghost use Rattle.columns.specs.Says.{span};
-ghost use Rattle.parcels.specs.Reads.{placed, outcome, within, mask_of, Fair, Kept, Reaches, LentAs, parts_read, SentAs, Within, MaskWithin, Inside, name_in};
 ghost use Rattle.denials.specs.Said.{said};
+ghost use Rattle.parcels.specs.Reads.{outcome, within, mask_of, Reaches, LentAs, parts_read, SentAs, MaskWithin, Inside, name_in, or_empty};
+ghost use Rattle.parcels.specs.Readers.{stands, Kept, SameNode};
+ghost use Rattle.parcels.specs.Sents.{SentAt, name_sent};
 
-use crate::draft::{Parts, Place};
-use crate::items::{buffer, item, length_of};
+use crate::draft::{Parts, Sends};
+use crate::reader::Reader;
+use crate::sent::Sent;
 use denials::Denial;
 use pools::records::Part;
 
-fn buffer_if(parcel: &[u8], place: Place, wanted: bool) -> Result<(Part, Place), Denial>
-    requires { Fair parcel.now place }
-    ensures reads { (bs : List (List ℕ)) → outcome (λ x. within parcel.now x.0) (λ x. placed parcel.now x.1 bs) result ≡ buffer_if wanted (placed parcel.now place bs) }
-    ensures inside { elim result [ Ok x ↦ Kept parcel.now place x.1 × Within parcel.now x.0 × (x.0.len < 4294967296) | Err _ ↦ Unit {0} ] }
-{
-    if wanted {
-        buffer(parcel, place)
-    } else {
-        Ok((Part { start: 0, len: 0 }, place))
+impl Reader<'_> {
+    // A buffer, where there is one.
+    fn buffer_if(&mut self, wanted: bool) -> Result<Option<Part>, Denial>
+        ensures reads { (bs : List (List ℕ)) → outcome (mask_of self.old.parcel.now) (λ x. stands self.new bs) result ≡ mask_if wanted (stands self.old bs) }
+        ensures or_empty { (bs : List (List ℕ)) → outcome (λ x. within self.old.parcel.now (or_empty x)) (λ x. stands self.new bs) result ≡ buffer_if wanted (stands self.old bs) }
+        ensures kept { Kept self.old self.new }
+        ensures inside { elim result [ Ok x ↦ MaskWithin self.old.parcel.now x × ((or_empty x).len < 4294967296) | Err d ↦ d ≡ Denial.Ends self.new.place.at ] }
+    {
+        // not `wanted.then(|| self.buffer())`: what `then` promises leaves open what becomes of the reader
+        if wanted {
+            Ok(Some(self.buffer()?))
+        } else {
+            Ok(None)
+        }
     }
-}
 
-fn mask_if(parcel: &[u8], place: Place, masked: bool) -> Result<(Option<Part>, Place), Denial>
-    requires { Fair parcel.now place }
-    ensures reads { (bs : List (List ℕ)) → outcome (λ x. mask_of parcel.now x.0) (λ x. placed parcel.now x.1 bs) result ≡ mask_if masked (placed parcel.now place bs) }
-    ensures inside { elim result [ Ok x ↦ Kept parcel.now place x.1 × MaskWithin parcel.now x.0 | Err _ ↦ Unit {0} ] }
-{
-    if masked {
-        let (part, after) = buffer(parcel, place)?;
-        Ok((Some(part), after))
-    } else {
-        Ok((None, place))
+    // A data buffer, brought or named.
+    pub(crate) fn data_buffer(&mut self) -> Result<Sent, Denial>
+        ensures reads { (bs : List (List ℕ)) → elim result [
+          | Ok x ↦ Reaches self.old.parcel.now self.old.place bs self.new.place (data_buffer (stands self.old bs))
+          | Err d ↦ data_buffer (stands self.old bs) ≡ denied (said d)
+        ] }
+        ensures names { (bs : List (List ℕ)) → elim result [ Ok x ↦ name_in (data_buffer (stands self.old bs)) ≡ name_sent x | Err _ ↦ Unit {0} ] }
+        ensures same { SameNode self.old self.new }
+        ensures inside { elim result [ Ok x ↦ SentAt self.old.parcel.now self.old.place.at x | Err d ↦ d ≡ Denial.Ends self.new.place.at ] }
+    {
+        let sent = Sent::read(self.ahead()).ok_or(Denial::Ends(self.place.at))?;
+        self.item(sent.size())?;
+        if let Sent::Brought(_) = sent {
+            self.place.brought += 1;
+        }
+        Ok(sent)
     }
-}
 
-// A data buffer is brought, or named by its number.
-pub(crate) fn data_buffer(parcel: &[u8], place: Place) -> Result<(Option<usize>, Place), Denial>
-    requires { Fair parcel.now place }
-    ensures reads { (bs : List (List ℕ)) → elim result [
-      | Ok x ↦ Reaches parcel.now place bs x.1 (data_buffer (placed parcel.now place bs))
-      | Err d ↦ data_buffer (placed parcel.now place bs) ≡ denied (said d)
-    ] }
-    ensures names { (bs : List (List ℕ)) → elim result [ Ok x ↦ name_in (data_buffer (placed parcel.now place bs)) ≡ x.0 | Err _ ↦ Unit {0} ] }
-    ensures inside { elim result [ Ok x ↦ Fair parcel.now x.1 × (x.1.nodes ≡ place.nodes) | Err _ ↦ Unit {0} ] }
-{
-    let at = place.at;
-    let Some(len) = length_of(&parcel[at..]) else {
-        return Err(Denial::Ends(place.at));
-    };
-    if len >= 2147483648 {
-        let next = item(parcel, place, 4)?;
-        Ok((Some(len - 2147483648), next))
-    } else {
-        let after = item(parcel, place, 4 + len)?;
-        Ok((
-            None,
-            Place {
-                at: after.at,
-                nodes: after.nodes,
-                brought: after.brought + 1,
-            },
-        ))
+    // So many data buffers, one after another.
+    fn listed(&mut self, count: usize) -> Result<(), Denial>
+        ensures reads { (bs : List (List ℕ)) → elim result [
+          | Ok _ ↦ Reaches self.old.parcel.now self.old.place bs self.new.place (each_of (λ (i : ℕ). data_buffer) (span 0 count) (stands self.old bs))
+          | Err d ↦ each_of (λ (i : ℕ). data_buffer) (span 0 count) (stands self.old bs) ≡ denied (said d)
+        ] }
+        ensures same { SameNode self.old self.new }
+        ensures inside { elim result [ Ok _ ↦ Unit {0} | Err d ↦ d ≡ Denial.Ends self.new.place.at ] }
+    {
+        for _k in 0..count {
+            self.data_buffer()?;
+        }
+        Ok(())
     }
-}
 
-// A list of data buffers, one after another.
-fn listed(parcel: &[u8], start: Place, count: usize) -> Result<Place, Denial>
-    requires { Fair parcel.now start }
-    ensures reads { (bs : List (List ℕ)) → elim result [
-      | Ok q ↦ Reaches parcel.now start bs q (each_of (λ (i : ℕ). data_buffer) (span 0 count) (placed parcel.now start bs))
-      | Err d ↦ each_of (λ (i : ℕ). data_buffer) (span 0 count) (placed parcel.now start bs) ≡ denied (said d)
-    ] }
-    ensures inside { elim result [ Ok q ↦ Fair parcel.now q × (q.nodes ≡ start.nodes) | Err _ ↦ Unit {0} ] }
-{
-    let mut here = start;
-    for _k in 0..count {
-        let (_name, after) = data_buffer(parcel, here)?;
-        here = after;
-    }
-    Ok(here)
-}
-
-fn count_of(ahead: &[u8]) -> Option<usize>
-    ensures { elim result [
-      | Some n ↦ (2 ≤ length ahead.now) × (n ≡ big_endian (take 2 ahead.now)) × (n < 65536)
-      | None ↦ length ahead.now < 2
-    ] }
-{
-    match ahead {
-        [a, b, ..] => Some(256 * (*a as usize) + *b as usize),
-        _ => None,
-    }
-}
-
-// A 16-bit count and its data buffers: where they start, and how many.
-fn lent_if(parcel: &[u8], place: Place, wanted: bool) -> Result<(Part, Place), Denial>
-    requires { Fair parcel.now place }
-    ensures reads { (bs : List (List ℕ)) → elim result [
-      | Ok x ↦ LentAs parcel.now place bs x.0 x.1 (data_buffers wanted (placed parcel.now place bs))
-      | Err d ↦ data_buffers wanted (placed parcel.now place bs) ≡ denied (said d)
-    ] }
-    ensures inside { elim result [ Ok x ↦ Fair parcel.now x.1 × (x.1.nodes ≡ place.nodes) × (x.0.start ≤ length parcel.now) × (x.0.len < 65536) | Err _ ↦ Unit {0} ] }
-{
-    if !wanted {
-        return Ok((
-            Part {
-                start: place.at,
+    // A 16-bit count and its data buffers: where they start, and how many.
+    fn lent_if(&mut self, wanted: bool) -> Result<Part, Denial>
+        ensures reads { (bs : List (List ℕ)) → elim result [
+          | Ok x ↦ LentAs self.old.parcel.now self.old.place bs x self.new.place (data_buffers wanted (stands self.old bs))
+          | Err d ↦ data_buffers wanted (stands self.old bs) ≡ denied (said d)
+        ] }
+        ensures same { SameNode self.old self.new }
+        ensures inside { elim result [ Ok x ↦ (x.start ≤ length self.old.parcel.now) × (x.len < 65536) | Err d ↦ d ≡ Denial.Ends self.new.place.at ] }
+    {
+        if !wanted {
+            return Ok(Part {
+                start: self.place.at,
                 len: 0,
-            },
-            place,
-        ));
+            });
+        }
+        let len = usize::from(u16::from_be_bytes(self.bytes::<2>()?));
+        let start = self.place.at;
+        self.listed(len)?;
+        Ok(Part { start, len })
     }
-    let at = place.at;
-    let Some(count) = count_of(&parcel[at..]) else {
-        return Err(Denial::Ends(place.at));
-    };
-    let start = item(parcel, place, 2)?;
-    let after = listed(parcel, start, count)?;
-    Ok((
-        Part {
-            start: start.at,
-            len: count,
-        },
-        after,
-    ))
-}
 
-// The buffers of a node, in order: mask, first buffer, text, data buffers.
-pub(crate) fn parts_of(
-    parcel: &[u8],
-    place: Place,
-    masked: bool,
-    sent: (bool, bool, bool),
-) -> Result<(Parts, Place), Denial>
-    requires { Fair parcel.now place }
-    ensures reads { (bs : List (List ℕ)) → elim result [
-      | Ok x ↦ SentAs parcel.now place bs x.0 x.1 (parts_read masked sent.0 sent.1 sent.2 (placed parcel.now place bs))
-      | Err d ↦ parts_read masked sent.0 sent.1 sent.2 (placed parcel.now place bs) ≡ denied (said d)
-    ] }
-    ensures inside { elim result [ Ok x ↦ Fair parcel.now x.1 × (x.1.nodes ≡ place.nodes) × Inside parcel.now x.0 | Err _ ↦ Unit {0} ] }
-{
-    let (first, second, lists) = sent;
-    let (mask, place) = mask_if(parcel, place, masked)?;
-    let (body, place) = buffer_if(parcel, place, first)?;
-    let (text, place) = buffer_if(parcel, place, second)?;
-    let (lent, place) = lent_if(parcel, place, lists)?;
-    Ok((
-        Parts {
+    // The buffers of a node, in order: mask, first buffer, text, data buffers.
+    pub(crate) fn parts(&mut self, masked: bool, sends: Sends) -> Result<Parts, Denial>
+        ensures reads { (bs : List (List ℕ)) → elim result [
+          | Ok x ↦ SentAs self.old.parcel.now self.old.place bs x self.new.place (parts_read masked sends.body sends.text sends.lent (stands self.old bs))
+          | Err d ↦ parts_read masked sends.body sends.text sends.lent (stands self.old bs) ≡ denied (said d)
+        ] }
+        ensures same { SameNode self.old self.new }
+        ensures inside { elim result [ Ok x ↦ Inside self.old.parcel.now x | Err d ↦ d ≡ Denial.Ends self.new.place.at ] }
+    {
+        let mask = self.buffer_if(masked)?;
+        let body = self.buffer_if(sends.body)?.unwrap_or_default();
+        let text = self.buffer_if(sends.text)?.unwrap_or_default();
+        let lent = self.lent_if(sends.lent)?;
+        Ok(Parts {
             mask,
             body,
             text,
             lent,
-        },
-        place,
-    ))
+        })
+    }
 }

@@ -8,3 +8,4 @@ pub mod Showing
 pub mod Adding
 pub mod Rooms
 pub mod Worked
+pub mod Short

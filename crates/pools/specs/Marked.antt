@@ -1,9 +1,10 @@
 -- The marks and lengths of pools 1 to 10.
-use Rattle.std.specs.Prelude.{ℕ, [], ◌∷◌, length}
-use Rattle.columns.specs.Pools.{Entries}
+use Rattle.std.specs.Prelude.{ℕ, [], ◌∷◌, ◌++◌, length}
+use Rattle.columns.specs.Pools as theory
 use Rattle.pools.specs.declared.pool.Pool.{Pool}
 use Rattle.pools.specs.declared.pools.Pools.{Pools}
 use Rattle.pools.specs.declared.pools.Marks.{Marks}
+use Rattle.pools.specs.declared.entries.Entries.{Entries}
 
 abbrev pub marks_of : Pools → Marks
 marks_of p =
@@ -26,5 +27,9 @@ abbrev pub no_marks : Marks
 no_marks = record { columns = 0; nodes = 0; bytes = 0; shorts = 0; words = 0; longs = 0; offsets = 0; views = 0; lists = 0; buffers = 0 }
 
 -- as the numbers of pools 1 to 10, in that order
-abbrev pub entries : Marks → Entries
+abbrev pub entries : Marks → theory.Entries
 entries m = m.columns ∷ m.nodes ∷ m.bytes ∷ m.shorts ∷ m.words ∷ m.longs ∷ m.offsets ∷ m.views ∷ m.lists ∷ m.buffers ∷ []
+
+-- as the numbers of pools 1 to 11
+abbrev pub listed : Entries → theory.Entries
+listed x = entries x.pools ++ x.slip ∷ []

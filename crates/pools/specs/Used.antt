@@ -1,5 +1,5 @@
 -- What a pool holds, and what it has room for.
-use Rattle.std.specs.Prelude.{ℕ, ◌+◌, ◌-◌, ◌≤◌, min, List, length, take}
+use Rattle.std.specs.Prelude.{ℕ, ◌+◌, ◌-◌, ◌≤◌, min, Bool, ◌&&◌, not, List, length, take, nat_le}
 use Rattle.pools.specs.declared.pool.Pool.{Pool}
 use Rattle.pools.specs.Grown.{most_entries, Grown, Longer}
 
@@ -23,3 +23,7 @@ Gains p new q = Grown p.mark p.lent.now new q.mark q.lent.now
 -- what p has below its mark stands in q
 abbrev pub Keeps : {X : Type 0} → Pool X → Pool X → Type 0
 Keeps p q = Longer p.mark p.lent.now q.mark q.lent.now
+
+-- so many entries more do not fit into a pool of this length with this mark
+abbrev pub is_short : (ℕ × ℕ) × ℕ → Bool
+is_short x = not (nat_le (x.0.1 + x.1) x.0.0 && nat_le (x.0.1 + x.1) most_entries)

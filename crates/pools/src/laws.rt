@@ -3,29 +3,21 @@ ghost use Rattle.pools.specs.Laws.{StoredStays, StoredIsOne, ShelfIsShown};
 ghost use Rattle.pools.specs.Example.{ThreeColumnsAreShown};
 
 // What is stored stays stored while the pools only grow.
-pub fn stored_columns_stay() -> u8
+pub fn stored_columns_stay()
     ensures { StoredStays }
-{
-    0
-}
+{}
 
 // A place stores at most one column, but for spare bits.
-pub fn a_place_stores_one_column() -> u8
+pub fn a_place_stores_one_column()
     ensures { StoredIsOne }
-{
-    0
-}
+{}
 
 // The pools show the shelf of the ledger, from the fresh one on, as columns are added.
-pub fn the_shelf_is_shown() -> u8
+pub fn the_shelf_is_shown()
     ensures { ShelfIsShown }
-{
-    0
-}
+{}
 
 // Three filed columns with all that lies in the pools for them: lists, booleans with a mask, a view.
-pub fn three_columns_are_shown() -> u8
+pub fn three_columns_are_shown()
     ensures { ThreeColumnsAreShown }
-{
-    0
-}
+{}

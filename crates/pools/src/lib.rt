@@ -1,6 +1,8 @@
 // The pools: lent memory that only grows, and what lies in it.
 #![tactic(auto)]
 
+pub mod bits;
+pub mod entries;
 pub mod laid;
 pub mod laws;
 pub mod pool;

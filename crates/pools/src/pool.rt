@@ -3,7 +3,10 @@ ghost use Rattle.std.specs.Prelude.{◌≡◌, ◌+◌, ◌-◌, ◌<◌, ◌≤
 ghost use borrow.Rule.Slice.PartMut.{put_mid};
 ghost use Rattle.pools.specs.Grown.{most_entries};
 ghost use Rattle.pools.specs.Kept.{Standing};
+ghost use Rattle.pools.specs.Parts.{part_of, Inside};
 ghost use Rattle.pools.specs.Used.{used, room, Fit, Gains};
+
+use crate::records::Part;
 
 // However long the slice is, no entry past these is used.
 pub const MOST_ENTRIES: usize = 1_048_576;
@@ -31,6 +34,14 @@ impl<T> Pool<'_, T> {
     {
         &self.lent[..self.mark]
     }
+
+    // The entries of a part that lies below the mark.
+    pub fn part(&self, part: Part) -> &[T]
+        requires { Inside (used self.now) part }
+        ensures { result.now ≡ part_of (used self.now) part }
+    {
+        part.of(self.lent)
+    }
 }
 
 impl<'a, T: Copy> Pool<'a, T> {
@@ -43,18 +54,16 @@ impl<'a, T: Copy> Pool<'a, T> {
 
     // Whether so many more entries fit.
     pub fn fits(&self, more: usize) -> bool
-        requires { Standing self.now }
         ensures { result ≡ nat_le (self.now.mark + more) (length self.now.lent.now) && nat_le (self.now.mark + more) most_entries }
     {
-        more <= self.free()
+        fits(self.lent.len(), self.mark, more)
     }
 
     pub fn append(&mut self, entry: T)
         requires { Fit self.old 1 }
         ensures { Gains self.old (entry ∷ []) self.new }
     {
-        let place = self.mark;
-        put(self.lent, place, entry);
+        self.lent[self.mark] = entry;
         self.mark += 1;
     }
 
@@ -63,9 +72,9 @@ impl<'a, T: Copy> Pool<'a, T> {
         requires { Fit self.old (length entries.now) }
         ensures { Gains self.old entries.now self.new }
     {
-        let place = self.mark;
-        put_all(self.lent, place, entries);
-        self.mark += entries.len();
+        let end = self.mark + entries.len();
+        self.lent[self.mark..end].copy_from_slice(entries);
+        self.mark = end;
     }
 
     // The entry at a place below the mark.
@@ -73,7 +82,7 @@ impl<'a, T: Copy> Pool<'a, T> {
         requires { place < length (used self.now) }
         ensures { (d : _) → result ≡ slice_index_or (used self.now) place d }
     {
-        at(self.lent, place)
+        self.lent[place]
     }
 }
 
@@ -84,23 +93,10 @@ pub fn left(len: usize, mark: usize) -> usize
     len.min(MOST_ENTRIES).saturating_sub(mark)
 }
 
-fn at<T: Copy>(lent: &[T], place: usize) -> T
-    requires { place < length lent.now }
-    ensures { (d : _) → result ≡ slice_index_or lent.now place d }
+// Whether so many entries more fit into a pool of this length with this mark.
+pub fn fits(len: usize, mark: usize, more: usize) -> bool
+    ensures { result ≡ (nat_le (mark + more) len && nat_le (mark + more) most_entries) }
 {
-    lent[place]
-}
-
-fn put<T: Copy>(entries: &mut [T], place: usize, entry: T)
-    requires { place < length entries.old }
-    ensures { entries.new ≡ slice_set entries.old place entry }
-{
-    entries[place] = entry;
-}
-
-fn put_all<T: Copy>(entries: &mut [T], place: usize, new: &[T])
-    requires { place + length new.now ≤ length entries.old }
-    ensures { entries.new ≡ put_mid place (length new.now) entries.old new.now }
-{
-    entries[place..place + new.len()].copy_from_slice(new);
+    mark.checked_add(more)
+        .is_some_and(|end| end <= len && end <= MOST_ENTRIES)
 }

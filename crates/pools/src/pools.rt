@@ -1,9 +1,12 @@
 // Pools 1 to 10, which a call borrows with the marks of the call before. Pool 11, the slip, is lent apart.
-ghost use Rattle.std.specs.Prelude.{◌≡◌};
-ghost use Rattle.pools.specs.Marked.{marks_of, lengths_of, marked};
+ghost use Rattle.std.specs.Prelude.{◌≡◌, ◌^◌, ◌<◌, take};
+ghost use Rattle.std.specs.List.{AllByRecursion};
+ghost use Rattle.columns.specs.Pools.{plus};
+ghost use Rattle.pools.specs.Marked.{marks_of, lengths_of, marked, entries};
 
 use crate::pool::Pool;
 use crate::records::{ColumnEntry, Node, Part, View};
+use std::ops::Add;
 
 #[derive(Drop)]
 pub struct Pools<'a> {
@@ -19,8 +22,8 @@ pub struct Pools<'a> {
     pub buffers: Pool<'a, Part>,
 }
 
-// A number for each pool: its mark or its length.
-#[derive(Clone, Copy)]
+// A number for each pool: its mark, its length, or what is needed of it.
+#[derive(Clone, Copy, PartialEq, Eq, Debug, Default)]
 pub struct Marks {
     pub columns: usize,
     pub nodes: usize,
@@ -32,6 +35,30 @@ pub struct Marks {
     pub views: usize,
     pub lists: usize,
     pub buffers: usize,
+}
+
+impl Add for Marks {
+    type Output = Marks;
+
+    // each sum is a number of 64 bits
+    ghost can_add = { λ a b. AllByRecursion (λ n. n < 2 ^ 64) (plus (entries a) (entries b)) };
+
+    ghost add_gives = { λ a b sum. entries sum ≡ take 10 (plus (entries a) (entries b)) };
+
+    fn add(self, other: Marks) -> Marks {
+        Marks {
+            columns: self.columns + other.columns,
+            nodes: self.nodes + other.nodes,
+            bytes: self.bytes + other.bytes,
+            shorts: self.shorts + other.shorts,
+            words: self.words + other.words,
+            longs: self.longs + other.longs,
+            offsets: self.offsets + other.offsets,
+            views: self.views + other.views,
+            lists: self.lists + other.lists,
+            buffers: self.buffers + other.buffers,
+        }
+    }
 }
 
 impl Pools<'_> {

@@ -1,5 +1,5 @@
 // The entries of the pools.
-ghost use Rattle.std.specs.Prelude.{◌≡◌, ◌+◌};
+ghost use Rattle.std.specs.Prelude.{◌≡◌, ◌+◌, ◌^◌, ◌<◌};
 ghost use Rattle.pools.specs.Parts.{part_of, Inside};
 
 use formats::kind::Kind;
@@ -19,6 +19,17 @@ impl Part {
     {
         let end = self.start + self.len;
         &entries[self.start..end]
+    }
+
+    // A range of the part's entries, as a part itself.
+    pub fn narrow(self, range: Part) -> Part
+        requires { self.start + range.start < 2 ^ 64 }
+        ensures { result ≡ record { start = self.start + range.start; len = range.len } }
+    {
+        Part {
+            start: self.start + range.start,
+            len: range.len,
+        }
     }
 }
 

@@ -1,9 +1,9 @@
+pub mod Inking
+pub mod Digits
 pub mod Pens
 pub mod Texts
-pub mod Slices
 pub mod Views
 pub mod Walks
 pub mod Speaks
-pub mod Fitting
 pub mod Shelves
 pub mod Props

@@ -1,86 +1,36 @@
--- What a pen has written, piece by piece.
-use Rattle.std.proofs.Common.{◌≡◌, ℕ, zero, suc, ◌+◌, ◌-◌, ◌/◌, ◌%◌, ◌<◌, ◌≤◌, Bool, true, false, cond, ltb, List, [], ◌∷◌, ◌++◌, length, take, drop, set, sym, refl, ap, ◌∙◌, subst, inl, inr, arith, length-set, MutBor, le-ltb, lt-ltb}
+-- What a pen leaves of its buffer, and what a gauge tells of a text.
+use Rattle.std.proofs.Common.{◌≡◌, ℕ, zero, suc, ◌+◌, ◌-◌, ◌<◌, ◌≤◌, Bool, true, false, cond, leb, List, [], ◌∷◌, ◌++◌, length, take, drop, set, sym, ap, ◌∙◌, inl, inr, arith, length-set, length-append, length-take, length-drop, MutBor, le-ltb, lt-ltb, le-leb, zero-add, Ok, Err, Result}
 use denote.Ref.{at_last}
-use Rattle.std.specs.List.{flat_map}
-use Rattle.std.proofs.lemmas.List.{take_more_set, drop-set-lt, append_assoc, take-append-drop, append-nil}
+use borrow.Author.Tests.{lt-leb}
+use Rattle.std.proofs.lemmas.List.{take_more_set, drop-set-lt, append_assoc, take-append-drop, append-nil, drop_all}
 use Rattle.std.proofs.lemmas.Bool.{cases_lt}
-use Rattle.columns.specs.Text.{hex_byte, hex_number}
-use Rattle.columns.specs.Bytes.{le_bytes}
+use Rattle.std.specs.Prelude.{IsErr}
+use Rattle.reading.specs.declared.ink.Full.{Full}
 use Rattle.reading.specs.declared.pen.Pen.{Pen}
-use Rattle.reading.specs.Inked.{inked, wrote, filled, moved}
-use Rattle.reading.specs.Laws.{dry_at, wet_at, pasted, PensWriteInFront}
+use Rattle.reading.specs.declared.pen.Gauge.{Gauge}
+use Rattle.reading.specs.Answers.{Stands, Overfull, Filled}
+use Rattle.reading.specs.Inked.{inked, wrote, left, marked, lower}
+use Rattle.reading.specs.Laws.{pen_at, gauge_of, penned, gauged, pasted, PensWriteInFront}
+use Rattle.reading.proofs.Inking.{wrote_append, wrote_full}
 
-pub wrote_append : (p : Pen) (xs ys : List ℕ) → wrote p (xs ++ ys) ≡ wrote (wrote p xs) ys
+-- A pen that has room goes on; one that has none refuses.
+on : (p : Pen) (b : ℕ) → p.place < length p.text.now → inked left marked (p, true) b ≡ (marked p b, true)
+on p b l = ap (λ (x : Bool). cond x (marked p b, true) (p, false)) (lt-ltb 0 (left p) (omega arith))
+
+none_fits : (p : Pen) (xs : List ℕ) → 0 < length xs → length p.text.now ≤ p.place → penned p xs ≡ (p, false)
 unfolding wrote
-wrote_append p [] ys = refl
-wrote_append p (x ∷ xs) ys = wrote_append (inked p x) xs ys
+none_fits p [] h l = absurd (omega arith)
+none_fits p (x ∷ xs) h l =
+    ap (λ s. wrote left marked s xs) (ap (λ (b : Bool). cond b (marked p x, true) (p, false)) (le-ltb 0 (left p) (omega arith))) ∙ wrote_full left marked p xs
 
-pub wrote_none : (p : Pen) → wrote p [] ≡ p
+pub pen_fits : (t : MutBor (List ℕ)) (i : ℕ) (xs : List ℕ) → i + length xs ≤ length t.now → penned (pen_at t i) xs ≡ (pen_at (pasted t i xs) (i + length xs), true)
 unfolding wrote
-wrote_none p = refl
-
--- one byte or one piece, and what is left
-pub step : (p q : Pen) (b : ℕ) (y : List ℕ) → q ≡ inked p b → wrote q y ≡ wrote p (b ∷ y)
-unfolding wrote
-step p q b y e = ap (λ r. wrote r y) e
-
-pub last : (p q : Pen) (b : ℕ) → q ≡ inked p b → q ≡ wrote p (b ∷ [])
-last p q b e = sym (wrote_none q) ∙ step p q b [] e
-
-pub piece : (p q : Pen) (x y : List ℕ) → q ≡ wrote p x → wrote q y ≡ wrote p (x ++ y)
-piece p q x y e = ap (λ r. wrote r y) e ∙ sym (wrote_append p x y)
-
--- A full pen stays as it is.
-pub wrote_full : (p : Pen) (xs : List ℕ) → p.full ≡ true → wrote p xs ≡ p
-unfolding wrote
-wrote_full p [] e = refl
-wrote_full p (x ∷ xs) e =
-    let same : inked p x ≡ p = ap (λ (b : Bool). cond b p (cond (ltb p.place (length p.text.now)) (moved p x) (filled p))) e in
-    ap (λ q. wrote q xs) same ∙ wrote_full p xs e
-
-pub number_more : (w v : ℕ) → 0 < w → hex_number w v ≡ hex_number (w - 1) (v / 256) ++ hex_byte (v % 256)
-number_more zero v h = absurd (omega arith)
-number_more (suc w) v h = ap (λ k. hex_number k (v / 256) ++ hex_byte (v % 256)) (let e : w ≡ suc w - 1 = omega arith in e)
-
-pub bytes_more : (n v : ℕ) → 0 < n → flat_map hex_byte (le_bytes n v) ≡ hex_byte (v % 256) ++ flat_map hex_byte (le_bytes (n - 1) (v / 256))
-bytes_more zero v h = absurd (omega arith)
-bytes_more (suc n) v h = ap (λ k. hex_byte (v % 256) ++ flat_map hex_byte (le_bytes k (v / 256))) (let e : n ≡ suc n - 1 = omega arith in e)
-
--- A pen that has room goes on; one that has none is full.
-on : (p : Pen) (b : ℕ) → p.full ≡ false → p.place < length p.text.now → inked p b ≡ moved p b
-on p b e l =
-    ap (λ (x : Bool). cond x p (cond (ltb p.place (length p.text.now)) (moved p b) (filled p))) e
-    ∙ ap (λ (x : Bool). cond x (moved p b) (filled p)) (lt-ltb p.place (length p.text.now) l)
-
-over : (p : Pen) (b : ℕ) → p.full ≡ false → length p.text.now ≤ p.place → inked p b ≡ filled p
-over p b e l =
-    ap (λ (x : Bool). cond x p (cond (ltb p.place (length p.text.now)) (moved p b) (filled p))) e
-    ∙ ap (λ (x : Bool). cond x (moved p b) (filled p)) (le-ltb p.place (length p.text.now) l)
-
-pub dry_fits : (t : MutBor (List ℕ)) (i : ℕ) (xs : List ℕ) → i + length xs ≤ length t.now → wrote (dry_at t i) xs ≡ dry_at t (i + length xs)
-unfolding wrote
-dry_fits t i [] h = ap (dry_at t) (let e : i ≡ i + 0 = omega arith in e)
-dry_fits t i (x ∷ xs) h =
-    ap (λ q. wrote q xs) (on (dry_at t i) x refl (omega arith))
-    ∙ dry_fits t (i + 1) xs (omega arith)
-    ∙ ap (dry_at t) (let e : i + 1 + length xs ≡ i + suc (length xs) = omega arith in e)
-
-pub dry_over : (t : MutBor (List ℕ)) (i : ℕ) (xs : List ℕ) → i ≤ length t.now → length t.now < i + length xs → ((wrote (dry_at t i) xs).full ≡ true) × ((wrote (dry_at t i) xs).text ≡ t)
-unfolding wrote
-dry_over t i [] l h = absurd (omega arith)
-dry_over t i (x ∷ xs) l h = elim (cases_lt i (length t.now)) [
-  | inl b ↦ subst (λ q. ((wrote q xs).full ≡ true) × ((wrote q xs).text ≡ t)) (sym (on (dry_at t i) x refl b)) (dry_over t (i + 1) xs (omega arith) (omega arith))
-  | inr b ↦ subst (λ q. (q.full ≡ true) × (q.text ≡ t)) (sym (ap (λ q. wrote q xs) (over (dry_at t i) x refl b) ∙ wrote_full (filled (dry_at t i)) xs refl)) (refl, refl)
-]
-
-pub wet_fits : (t : MutBor (List ℕ)) (i : ℕ) (xs : List ℕ) → i + length xs ≤ length t.now → wrote (wet_at t i) xs ≡ wet_at (pasted t i xs) (i + length xs)
-unfolding wrote
-wet_fits t i [] h =
+pen_fits t i [] h =
     let e : i ≡ i + 0 = omega arith in
     let same : t.now ≡ take i t.now ++ [] ++ drop (i + 0) t.now =
     sym (take-append-drop i t.now) ∙ ap (λ (l : List ℕ). l ++ drop i t.now) (sym (append-nil (take i t.now))) ∙ ap (λ k. take i t.now ++ [] ++ drop k t.now) e in
-    ap (λ (l : List ℕ). wet_at (at_last t l) i) same ∙ ap (wet_at (pasted t i [])) e
-wet_fits t i (x ∷ xs) h =
+    ap (λ (l : List ℕ). (pen_at (at_last t l) i, true)) same ∙ ap (λ k. (pen_at (pasted t i []) k, true)) e
+pen_fits t i (x ∷ xs) h =
     let s = set t.now i x in
     let l : i < length t.now = omega arith in
     let e : i + 1 + length xs ≡ i + suc (length xs) = omega arith in
@@ -90,21 +40,85 @@ wet_fits t i (x ∷ xs) h =
     ∙ ap (λ (f : List ℕ). f ++ drop (i + 1 + length xs) s) (append_assoc (take i t.now) (x ∷ []) xs)
     ∙ ap (λ (f : List ℕ). take i t.now ++ x ∷ xs ++ f) (drop-set-lt (i + 1 + length xs) t.now i x (omega arith))
     ∙ ap (λ k. take i t.now ++ x ∷ xs ++ drop k t.now) e in
-    ap (λ q. wrote q xs) (on (wet_at t i) x refl l)
-    ∙ wet_fits (at_last t s) (i + 1) xs fits
-    ∙ ap (λ (f : List ℕ). wet_at (at_last t f) (i + 1 + length xs)) same
-    ∙ ap (wet_at (pasted t i (x ∷ xs))) e
+    ap (λ q. wrote left marked q xs) (on (pen_at t i) x l)
+    ∙ pen_fits (at_last t s) (i + 1) xs fits
+    ∙ ap (λ (f : List ℕ). (pen_at (at_last t f) (i + 1 + length xs), true)) same
+    ∙ ap (λ k. (pen_at (pasted t i (x ∷ xs)) k, true)) e
 
-wet_over : (t : MutBor (List ℕ)) (i : ℕ) (xs : List ℕ) → i ≤ length t.now → length t.now < i + length xs → (wrote (wet_at t i) xs).full ≡ true
+pub pen_over : (t : MutBor (List ℕ)) (i : ℕ) (xs : List ℕ) → i ≤ length t.now → length t.now < i + length xs →
+    penned (pen_at t i) xs ≡ (pen_at (pasted t i (take (length t.now - i) xs)) (length t.now), false)
+pen_over t i xs l h =
+    let n = length t.now - i in
+    let front = take n xs in
+    let q = pen_at (pasted t i front) (i + length front) in
+    let f : length front ≡ n = (let z = length-take n xs in omega arith) in
+    let whole : i + length front ≡ length t.now = omega arith in
+    let size : length (take i t.now ++ front ++ drop (i + length front) t.now) ≡ i + length front =
+    (let a = length-append (take i t.now ++ front) (drop (i + length front) t.now) in let b = length-append (take i t.now) front in
+    let c = length-take i t.now in let d = length-drop (i + length front) t.now in omega arith) in
+    ap (penned (pen_at t i)) (sym (take-append-drop n xs))
+    ∙ wrote_append left marked (pen_at t i, true) front (drop n xs)
+    ∙ ap (λ s. wrote left marked s (drop n xs)) (pen_fits t i front (omega arith))
+    ∙ none_fits q (drop n xs) (let z = length-drop n xs in omega arith) (omega arith)
+    ∙ ap (λ k. (pen_at (pasted t i front) k, false)) whole
+
+pub gauge_fits : (n : ℕ) (xs : List ℕ) → length xs ≤ n → gauged (gauge_of n) xs ≡ (gauge_of (n - length xs), true)
 unfolding wrote
-wet_over t i [] l h = absurd (omega arith)
-wet_over t i (x ∷ xs) l h =
-    elim (cases_lt i (length t.now)) [
-      | inl b ↦
-          ap (λ q. (wrote q xs).full) (on (wet_at t i) x refl b)
-          ∙ wet_over (at_last t (set t.now i x)) (i + 1) xs (let z = length-set t.now i x in omega arith) (let z = length-set t.now i x in omega arith)
-      | inr b ↦ ap (λ q. (wrote q xs).full) (over (wet_at t i) x refl b) ∙ ap (λ (q : Pen). q.full) (wrote_full (filled (wet_at t i)) xs refl)
-    ]
+gauge_fits n [] h = ap (λ k. (gauge_of k, true)) (let e : n ≡ n - 0 = omega arith in e)
+gauge_fits n (x ∷ xs) h =
+    ap (λ s. wrote (λ (g : Gauge). g.room) lower s xs) (ap (λ (b : Bool). cond b (gauge_of (n - 1), true) (gauge_of n, false)) (lt-ltb 0 n (omega arith)))
+    ∙ gauge_fits (n - 1) xs (omega arith)
+    ∙ ap (λ k. (gauge_of k, true)) (let e : n - 1 - length xs ≡ n - suc (length xs) = omega arith in e)
+
+pub gauge_over : (n : ℕ) (xs : List ℕ) → n < length xs → gauged (gauge_of n) xs ≡ (gauge_of 0, false)
+unfolding wrote
+gauge_over n [] h = absurd (omega arith)
+gauge_over zero (x ∷ xs) h = wrote_full (λ (g : Gauge). g.room) lower (gauge_of 0) xs
+gauge_over (suc n) (x ∷ xs) h =
+    ap (λ s. wrote (λ (g : Gauge). g.room) lower s xs) (ap (λ (b : Bool). cond b (gauge_of (suc n - 1), true) (gauge_of (suc n), false)) (lt-ltb 0 (suc n) (omega arith)))
+    ∙ ap (λ k. wrote (λ (g : Gauge). g.room) lower (gauge_of k, true) xs) (let e : suc n - 1 ≡ n = omega arith in e) ∙ gauge_over n xs (omega arith)
 
 pub pens_write_in_front : PensWriteInFront
-pens_write_in_front = record { fits = wet_fits; over = wet_over; dry_fits = dry_fits; dry_over = dry_over; in_turn = wrote_append }
+pens_write_in_front =
+    record { fits = pen_fits; over = pen_over; gauge_fits = gauge_fits; gauge_over = gauge_over; in_turn = wrote_append left marked; gauge_in_turn = wrote_append (λ (g : Gauge). g.room) lower }
+
+-- A gauge tells whether a text fits.
+pub gauge_tells : (n : ℕ) (xs : List ℕ) (g : Gauge) (b : Bool) → ◌≡◌ {A = Gauge × Bool} (g, b) (gauged (gauge_of n) xs) → b ≡ leb (length xs) n
+gauge_tells n xs g b e = elim (cases_lt n (length xs)) [
+  | inl l ↦ ap (λ (s : Gauge × Bool). s.1) (e ∙ gauge_over n xs l) ∙ sym (lt-leb (length xs) n l)
+  | inr l ↦ ap (λ (s : Gauge × Bool). s.1) (e ∙ gauge_fits n xs l) ∙ sym (le-leb (length xs) n l)
+]
+
+-- x is what the lender of the buffer has after the pen q
+pub pen_stands : (t : MutBor (List ℕ)) (x : List ℕ) (q : Pen) (xs : List ℕ) → ◌≡◌ {A = Pen × Bool} (q, true) (penned (pen_at t 0) xs) → (t.ghost_name ≡ q.text.ghost_name → x ≡ q.text.now) → Stands xs q.place t.now x
+pen_stands t x q xs e back = elim (cases_lt (length t.now) (length xs)) [
+  | inl l ↦ (let z : true ≡ false = ap (λ (s : Pen × Bool). s.1) (e ∙ pen_over t 0 xs (omega arith) (omega arith)) in cc)
+  | inr l ↦
+      let o : q ≡ pen_at (pasted t 0 xs) (0 + length xs) = ap (λ (s : Pen × Bool). s.0) (e ∙ pen_fits t 0 xs (omega arith)) in
+      record {
+        count = ap (λ (p : Pen). p.place) o ∙ zero-add (length xs);
+        fits = l;
+        front = back (sym (ap (λ (p : Pen). p.text.ghost_name) o)) ∙ ap (λ (p : Pen). p.text.now) o ∙ ap (λ n. xs ++ drop n t.now) (zero-add (length xs));
+      }
+]
+
+pub pen_overfull : (t : MutBor (List ℕ)) (x : List ℕ) (q : Pen) (xs : List ℕ) → ◌≡◌ {A = Pen × Bool} (q, false) (penned (pen_at t 0) xs) → (t.ghost_name ≡ q.text.ghost_name → x ≡ q.text.now) → Overfull xs t.now x
+pen_overfull t x q xs e back = elim (cases_lt (length t.now) (length xs)) [
+  | inl l ↦
+      let front = take (length t.now - 0) xs in
+      let o : q ≡ pen_at (pasted t 0 front) (length t.now) = ap (λ (s : Pen × Bool). s.0) (e ∙ pen_over t 0 xs (omega arith) (omega arith)) in
+      let all : length t.now ≤ 0 + length front = (let z = length-take (length t.now - 0) xs in omega arith) in
+      record {
+        longer = l;
+        front =
+            back (sym (ap (λ (p : Pen). p.text.ghost_name) o)) ∙ ap (λ (p : Pen). p.text.now) o
+            ∙ ap (λ (rest : List ℕ). front ++ rest) (drop_all (0 + length front) t.now all)
+            ∙ append-nil front
+            ∙ ap (λ n. take n xs) (let z : length t.now - 0 ≡ length t.now = omega arith in z);
+      }
+  | inr l ↦ (let z : false ≡ true = ap (λ (s : Pen × Bool). s.1) (e ∙ pen_fits t 0 xs (omega arith)) in cc)
+]
+
+pub overfilled : (r : Result ℕ Full) (t before after : List ℕ) → IsErr r → Overfull t before after → Filled r t before after
+overfilled (Ok n) t before after h o = cc
+overfilled (Err e) t before after h o = o

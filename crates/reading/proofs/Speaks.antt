@@ -1,5 +1,5 @@
 -- What a row of a stored node says, shape by shape, in terms of what is read.
-use Rattle.std.proofs.Common.{◌≡◌, ℕ, zero, suc, ◌+◌, ◌-◌, ◌*◌, ◌<◌, ◌≤◌, Bool, true, false, cond, not, List, [], ◌++◌, map, length, get_or, Some, None, codes, Option as Maybe, sym, refl, ap, ◌∙◌, subst, ap₂, mul-le-mul_right, suc-mul, arith}
+use Rattle.std.proofs.Common.{◌≡◌, ℕ, zero, suc, ◌+◌, ◌-◌, ◌*◌, ◌<◌, ◌≤◌, Bool, true, false, cond, not, List, [], ◌∷◌, ◌++◌, map, length, get_or, Some, None, codes, Option as Maybe, sym, refl, ap, ◌∙◌, subst, ap₂, mul-le-mul_right, suc-mul, arith}
 use mathlib.Core.Option.{Option, some, none}
 use lib.ListN.{length-map}
 use Rattle.std.specs.List.{AllByRecursion}
@@ -400,9 +400,37 @@ turned b true false h t = cc
 turned b false true h t = cc
 turned b false false h t = refl
 
-pub null_at : (P : Store) (place row : ℕ) {r : Entry} {b : Bool} (v : Bool) → r ≡ node_entry P place → b ≡ not (mask_bit P.bytes r.mask row) → b ≡ not v → mask_bit P.bytes (node_entry P place).mask row ≡ v
-null_at P place row {r} {b} v e h t = ap (λ (x : Entry). mask_bit P.bytes x.mask row) (sym e) ∙ turned b (mask_bit P.bytes r.mask row) v h t
+pub valid_at : (P : Store) (place row : ℕ) {r : Entry} {b : Bool} (v : Bool) → r ≡ node_entry P place → b ≡ not (mask_bit P.bytes r.mask row) → b ≡ not v → mask_bit P.bytes (node_entry P place).mask row ≡ v
+valid_at P place row {r} {b} v e h t = ap (λ (x : Entry). mask_bit P.bytes x.mask row) (sym e) ∙ turned b (mask_bit P.bytes r.mask row) v h t
 
 pub part_at : (P : Store) (place row : ℕ) {r : Entry} {p : Part} → r ≡ node_entry P place → p ≡ row_range P.offsets r.kind r.place row → range_at P place row ≡ p
 unfolding range_at
 part_at P place row e h = sym (h ∙ ap (λ (x : Entry). row_range P.offsets x.kind x.place row) e)
+
+-- The same of an entry r that was read at the place, whether the row is null by it, b, and the range p that was read there.
+pub null_read : {P : Store} {place row levels : ℕ} {r : Entry} {b : Bool} (d : Column) → RowReadable P place d row levels → r ≡ node_entry P place → b ≡ not (mask_bit P.bytes r.mask row) → b ≡ true → codes "-" ≡ row_text P d row
+null_read {P} {place} {row} d q e v t = sym (null_text d q (valid_at P place row false e v t))
+
+pub leaf_said : {P : Store} {place row levels : ℕ} {r : Entry} {b : Bool} (d : Column) → RowReadable P place d row levels → r ≡ node_entry P place → b ≡ not (mask_bit P.bytes r.mask row) → b ≡ false → Leaf ≡ shape_of r.kind →
+    leaf_text P r r.kind row ≡ row_text P d row
+leaf_said {P} {place} {row} d q e v t s =
+    ap (λ (x : Entry). leaf_text P x x.kind row) e ∙ sym (leaf_row d q (valid_at P place row true e v t) (shape_at P place e s))
+
+pub rows_there : {P : Store} {place row levels : ℕ} {r : Entry} {p : Part} (d : Column) → RowReadable P place d row levels → r ≡ node_entry P place → Ranges ≡ shape_of r.kind → p ≡ row_range P.offsets r.kind r.place row →
+    RowsReadable P (place + 1) (first (children d)) p (levels - 1)
+rows_there {P} {place} {row} {levels} d q e s h =
+    subst (λ (x : Part). RowsReadable P (place + 1) (first (children d)) x (levels - 1)) (part_at P place row e h) (rows_given d q (shape_at P place e s))
+
+pub ranges_said : {P : Store} {place row levels : ℕ} {r : Entry} {b : Bool} {p : Part} (d : Column) → RowReadable P place d row levels → r ≡ node_entry P place → b ≡ not (mask_bit P.bytes r.mask row) → b ≡ false → Ranges ≡ shape_of r.kind →
+    p ≡ row_range P.offsets r.kind r.place row → 91 ∷ (rows_text P (first (children d)) p ++ 93 ∷ []) ≡ row_text P d row
+ranges_said {P} {place} {row} d q e v t s h =
+    ap (λ (x : Part). 91 ∷ (rows_text P (first (children d)) x ++ 93 ∷ [])) (sym (part_at P place row e h))
+    ∙ sym (ranges_row d q (valid_at P place row true e v t) (shape_at P place e s))
+
+pub fields_there : {P : Store} {place row levels : ℕ} {r : Entry} (d : Column) → RowReadable P place d row levels → r ≡ node_entry P place → Fields ≡ shape_of r.kind → FieldsReadable P (place + 1) (children d) r.children row (levels - 1)
+fields_there {P} {place} {row} {levels} d q e s =
+    subst (λ (x : Entry). FieldsReadable P (place + 1) (children d) x.children row (levels - 1)) (sym e) (fields_given d q (shape_at P place e s))
+
+pub fields_said : {P : Store} {place row levels : ℕ} {r : Entry} {b : Bool} (d : Column) → RowReadable P place d row levels → r ≡ node_entry P place → b ≡ not (mask_bit P.bytes r.mask row) → b ≡ false → Fields ≡ shape_of r.kind →
+    123 ∷ (fields_text P (children d) row ++ 125 ∷ []) ≡ row_text P d row
+fields_said {P} {place} {row} d q e v t s = sym (fields_row d q (valid_at P place row true e v t) (shape_at P place e s))

@@ -6,7 +6,6 @@ use Rattle.std.proofs.lemmas.List.{take-append-le, append-nil, append_assoc, get
 use Rattle.std.proofs.ByRecursion.{All-get_or}
 use Rattle.std.proofs.lemmas.Bool.{cases_lt}
 use Rattle.formats.specs.declared.format.Width.{Width}
-use Rattle.formats.specs.declared.format.Width.TheVariants.{One, Two, Four, Eight}
 use Rattle.formats.specs.declared.kind.Kind.{Kind}
 use Rattle.formats.specs.declared.kind.Kind.TheVariants.{Primitive, Boolean, Text, View as Viewed, List as Listed, Map, Struct, RunEnds, FixedList}
 use Rattle.columns.specs.Column.{short, long}
@@ -14,29 +13,24 @@ use Rattle.columns.specs.Bytes.{le_bytes}
 use Rattle.columns.specs.Says.{slice, view_text}
 use Rattle.columns.specs.Sound.{ViewSound}
 use Rattle.pools.specs.declared.pool.Pool.{Pool}
-use Rattle.pools.specs.declared.pools.Pools.{Pools}
 use Rattle.pools.specs.declared.records.Part.{Part}
 use Rattle.pools.specs.declared.records.View.{View as Halves}
 use Rattle.pools.specs.declared.records.Node.{Node as Entry}
 use Rattle.pools.specs.Used.{used}
-use Rattle.pools.specs.Kept.{Standing, Ready}
+use Rattle.pools.specs.Kept.{Standing}
 use Rattle.pools.specs.Parts.{part_of, Inside, buffers_in}
-use Rattle.pools.specs.Store.{Store, store, Segment, no_part}
-use Rattle.pools.specs.Held.{values_pool, view_from}
+use Rattle.pools.specs.Store.{Store, Segment, no_part}
+use Rattle.pools.specs.Held.{view_from}
 use Rattle.pools.proofs.Fronts.{segment_at, segment_length, segment_part}
 use Rattle.rows.specs.declared.views.ViewParts.{ViewParts}
 use Rattle.rows.specs.declared.views.ViewParts.TheVariants.{Inline, Buffered}
 use Rattle.rows.specs.Views.{parts_of}
-use Rattle.reading.specs.Raw.{buffer_in, inline, viewed, ViewIn, leaf_text}
+use Rattle.columns.specs.Text.{hex_byte}
+use Rattle.rows.specs.Shelved.{buffered_part}
+use Rattle.reading.specs.Raw.{buffer_in, inline, viewed, quoted, ViewIn, leaf_text}
 
 pub few : {X : Type 0} (p : Pool X) → Standing p → length (used p) ≤ 1048576
 few p s = let e = length-take p.mark p.lent.now in let c = s.capped in omega arith
-
-pub few_values : (p : Pools) (w : Width) → Ready p → length (values_pool (store p) w) ≤ 1048576
-few_values p One r = few p.bytes r.bytes
-few_values p Two r = few p.shorts r.shorts
-few_values p Four r = few p.words r.words
-few_values p Eight r = few p.longs r.longs
 
 pub joined_both : {X Y : Type 0} (f : X → List Y) (xs ys : List X) (zs : List Y) → flat_map f xs ++ (flat_map f ys ++ zs) ≡ flat_map f (xs ++ ys) ++ zs
 joined_both f [] ys zs = refl
@@ -63,6 +57,20 @@ short_bytes n a b h = elim (cases_lt n 5) [
       ∙ ap (λ k. le_bytes 4 a ++ le_bytes k b) (let e : n - 4 ≡ n - min n 4 = omega arith in e)
       ∙ ap (λ k. le_bytes k a ++ le_bytes (n - min n 4) b) (let e : 4 ≡ min n 4 = omega arith in e)
 ]
+
+-- as it is written: so many bytes of the low half, and what is left of the high one
+abbrev pub low_part : ℕ → Halves → List ℕ
+low_part front h = flat_map hex_byte (le_bytes front (h.low / 2 ^ 32))
+
+abbrev pub high_part : (len front : ℕ) → Halves → List ℕ
+high_part len front h = flat_map hex_byte (le_bytes (len - front) h.high)
+
+pub short_text : (len front : ℕ) (h : Halves) → len ≤ 12 → min len 4 ≡ front → 34 ∷ (low_part front h ++ (high_part len front h ++ 34 ∷ [])) ≡ quoted (take len (inline h))
+unfolding inline
+short_text len front h l m =
+    ap (λ (t : List ℕ). 34 ∷ t)
+    (joined_both hex_byte (le_bytes front (h.low / 2 ^ 32)) (le_bytes (len - front) h.high) (34 ∷ [])
+    ∙ ap (λ (t : List ℕ). flat_map hex_byte t ++ 34 ∷ []) (ap (λ k. le_bytes k (h.low / 2 ^ 32) ++ le_bytes (len - k) h.high) (sym m) ∙ sym (short_bytes len (h.low / 2 ^ 32) h.high l)))
 
 -- which a view is, by its length
 pub is_short : (h : Halves) → h.low % 2 ^ 32 ≤ 12 → view_from h ≡ short (h.low % 2 ^ 32) (inline h)
@@ -145,6 +153,13 @@ long_lies P list h v l =
           ∙ ap (λ m. slice (buffer_in P m) off n) e
           ∙ sym (ap (view_text (buffer_in P) names) (is_long h l));
     }
+
+pub long_text : (P : Store) (r : Entry) (h : Halves) {len position offset : ℕ} → BufferedIs h len position offset → ViewIn P r.buffers h → part_of P.bytes (buffered_part P r position offset len) ≡ viewed P r.buffers h
+long_text P r h {len} {position} {offset} b v =
+    ap (λ i. part_of P.bytes (buffered_part P r i offset len)) b.is_position
+    ∙ ap (λ o. part_of P.bytes (buffered_part P r (h.high % 2 ^ 32) o len)) b.is_offset
+    ∙ ap (λ n. part_of P.bytes (buffered_part P r (h.high % 2 ^ 32) (h.high / 2 ^ 32) n)) b.is_len
+    ∙ (long_lies P r.buffers h v b.is_long).is_text
 
 -- A node with children has no text of its own.
 pub no_leaf : (P : Store) (r : Entry) (k : Kind) (i : ℕ) → ((w : Width) → k ≡ Primitive w → ⊥) → (k ≡ Boolean → ⊥) → ((wide : Bool) → k ≡ Text wide → ⊥) → (k ≡ Viewed → ⊥) → leaf_text P r k i ≡ []

@@ -1,8 +1,9 @@
 -- The answers of a reading, and the shelf that it is of.
-use Rattle.std.specs.Prelude.{◌≡◌, ℕ, ◌<◌, ◌≤◌, List, ◌++◌, length, drop, Some, None, Ok, Err, Option, Result}
+use Rattle.std.specs.Prelude.{◌≡◌, ℕ, ◌<◌, ◌≤◌, List, ◌++◌, length, take, drop, Some, None, Ok, Err, Option, Result}
 use Rattle.columns.specs.Ledger.{Shelf, column_at, buffer_at, Answer, added, wrote, refused}
 use Rattle.columns.specs.Limits.{most_levels, depth}
 use Rattle.columns.specs.Sound.{Sound}
+use Rattle.reading.specs.declared.ink.Full.{Full}
 use Rattle.denials.specs.declared.Denial.{Denial}
 use Rattle.denials.specs.Said.{said}
 use Rattle.pools.specs.Store.{Store}
@@ -22,6 +23,15 @@ pub record TooLong (t before after : List ℕ) : Type 0 where
 abbrev pub Placed : Option ℕ → (t before after : List ℕ) → Type 0
 Placed (Some n) t before after = Stands t n before after
 Placed None t before after = TooLong t before after
+
+-- A text that is too long fills the buffer with its front.
+pub record Overfull (t before after : List ℕ) : Type 0 where
+  pub longer : length before < length t
+  pub front : after ≡ take (length before) t
+
+abbrev pub Filled : Result ℕ Full → (t before after : List ℕ) → Type 0
+Filled (Ok n) t before after = Stands t n before after
+Filled (Err e) t before after = Overfull t before after
 
 -- The pools show a shelf whose columns are sound and not too deep.
 pub record ShelfReadable (P : Store) (s : Shelf) : Type 0 where

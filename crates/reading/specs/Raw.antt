@@ -12,7 +12,7 @@ use Rattle.pools.specs.declared.records.Part.{Part}
 use Rattle.pools.specs.declared.records.View.{View as Halves}
 use Rattle.pools.specs.declared.records.Node.{Node as Entry}
 use Rattle.pools.specs.Parts.{part_of, Inside, buffers_in}
-use Rattle.pools.specs.Store.{Store, no_halves, no_part}
+use Rattle.pools.specs.Store.{Store, no_halves}
 use Rattle.pools.specs.Held.{values_pool, view_from}
 use Rattle.pools.specs.Bits.{bit_of}
 use Rattle.rows.specs.Ranged.{text_part}
@@ -45,10 +45,6 @@ quoted bs = codes "\"" ++ flat_map hex_byte bs ++ codes "\""
 -- A data buffer's bytes, and a view's text and soundness by its halves and its node's buffer list.
 abbrev pub buffer_in : Store → ℕ → List ℕ
 buffer_in P b = slice_index_or (buffers_in P.bytes P.buffers) b []
-
--- the part of the data buffer whose number stands at a place of the lists
-abbrev pub listed_part : Store → ℕ → Part
-listed_part P i = slice_index_or P.buffers (slice_index P.lists i) no_part
 
 -- the bytes in a view, after its length
 unfoldable pub inline : Halves → List ℕ

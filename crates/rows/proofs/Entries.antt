@@ -1,14 +1,14 @@
 -- The entry of a row among run ends.
-use Rattle.std.proofs.Common.{◌≡◌, ℕ, zero, suc, ◌+◌, ◌<◌, ◌≤◌, List, [], ◌∷◌, length, get_or, refl, ⊎_elim, arith}
+use Rattle.std.proofs.Common.{◌≡◌, ℕ, zero, suc, ◌<◌, ◌≤◌, List, [], ◌∷◌, map, length, get_or, leb, true, false, sym, ap, ◌∙◌, subst, ⊎_elim, arith}
+use lib.ListN.{length-map}
+use borrow.Author.Tests.{leb-true, leb-false}
+use Rattle.std.specs.List.Sorted.{IsNonDecreasingBy, IsPartitionPoint}
+use Rattle.std.proofs.lemmas.List.{get_or-map, map-id}
 use Rattle.columns.specs.Says.{entry}
 use Rattle.columns.specs.Sound.{Climbs}
 use Rattle.columns.proofs.Run.{entry_first, entry_next}
 use Rattle.std.proofs.lemmas.Bool.{cases_lt}
-use Rattle.pools.specs.declared.records.Part.{Part}
-use Rattle.pools.specs.Parts.{part_of, Inside}
-use Rattle.pools.specs.Store.{Lies}
 use Rattle.rows.specs.Ranged.{Rises}
-use Rattle.pools.proofs.Fronts.{segment_at, segment_length}
 
 -- never past an end that is above the row
 pub entry_at_most : (es : List ℕ) (k row : ℕ) → k < length es → row < get_or es k 0 → entry es row ≤ k
@@ -46,17 +46,29 @@ climbs_rise low (e ∷ es) top c zero (suc k) h l = omega (arith, climbs_above e
 climbs_rise low (e ∷ es) top c (suc j) zero h l = absurd (omega arith)
 climbs_rise low (e ∷ es) top c (suc j) (suc k) h l = climbs_rise e es top c.1 j k (omega arith) (omega arith)
 
--- the same for numbers that lie in a part of a pool
-pub part_low : (xs : List ℕ) (p : Part) (k row n : ℕ) → Inside xs p → Rises (part_of xs p) → k < p.len → n ≡ get_or xs (p.start + k) 0 → n ≤ row → k < entry (part_of xs p) row
-part_low xs p k row n i r h e l =
-    let s : Lies xs p (part_of xs p) = record { within = i; is = refl } in
-    entry_above (part_of xs p) k row r (omega (arith, segment_length s)) (omega (arith, segment_at s k 0 h, e))
+-- where a search by halves stops: the ends before are not above the row, the next one is
+entry_at : (es : List ℕ) (i row : ℕ) → Rises es → i ≤ length es → ((k : ℕ) → k < i → get_or es k 0 ≤ row) → (i < length es → row < get_or es i 0) → i ≡ entry es row
+entry_at es zero row r h low high = ⊎_elim (λ l. omega (arith, entry_at_most es 0 row l (high l))) (λ l. omega (arith, entry_within es row)) (cases_lt 0 (length es))
+entry_at es (suc i) row r h low high =
+    ⊎_elim (λ l. omega (arith, entry_above es i row r (omega arith) (low i (omega arith)), entry_at_most es (suc i) row l (high l)))
+    (λ l. omega (arith, entry_above es i row r (omega arith) (low i (omega arith)), entry_within es row)) (cases_lt (suc i) (length es))
 
-pub part_high : (xs : List ℕ) (p : Part) (k row n : ℕ) → Inside xs p → k < p.len → n ≡ get_or xs (p.start + k) 0 → row < n → entry (part_of xs p) row ≤ k
-part_high xs p k row n i h e l =
-    let s : Lies xs p (part_of xs p) = record { within = i; is = refl } in
-    entry_at_most (part_of xs p) k row (omega (arith, segment_length s)) (omega (arith, segment_at s k 0 h, e))
+pub rises_by : {X : Type 0} (number : X → ℕ) (xs : List X) → Rises (map number xs) → IsNonDecreasingBy number xs
+rises_by number xs r i j d h l =
+    let a = get_or-map number xs i d 0 (omega arith) in let b = get_or-map number xs j d 0 l in
+    let n = length-map xs number in let c = r i j h (omega arith) in omega arith
 
-pub part_within : (xs : List ℕ) (p : Part) (row : ℕ) → Inside xs p → entry (part_of xs p) row ≤ p.len
-part_within xs p row i =
-    let s : Lies xs p (part_of xs p) = record { within = i; is = refl } in omega (arith, segment_length s, entry_within (part_of xs p) row)
+pub point_entry : {X : Type 0} (number : X → ℕ) (xs : List X) (i row : ℕ) → Rises (map number xs) → i ≤ length xs →
+    IsPartitionPoint (λ x. leb (number x) row ≡ true) (λ x. leb (number x) row ≡ false) xs i → i ≡ entry (map number xs) row
+point_entry number [] i row r h p = omega arith
+point_entry number (x ∷ xs) i row r h p =
+    let n = length-map (x ∷ xs) number in
+    entry_at (map number (x ∷ xs)) i row r (omega arith)
+    (λ k l. let a = get_or-map number (x ∷ xs) k x 0 (omega arith) in let b = leb-true (number (get_or (x ∷ xs) k x)) row (p.0 k x (omega arith) l) in omega arith)
+    (λ l. let a = get_or-map number (x ∷ xs) i x 0 (omega arith) in let b = leb-false (number (get_or (x ∷ xs) i x)) row (p.1 i x (omega arith) (omega arith)) in omega arith)
+
+-- the numbers of a part, which are the entries themselves
+pub entry_of_numbers : (xs es : List ℕ) (i row : ℕ) → es ≡ xs → Rises xs → (Rises (map (λ (n : ℕ). n) es) → i ≡ entry (map (λ (n : ℕ). n) es) row) → i ≡ entry xs row
+entry_of_numbers xs es i row e r f =
+    let m : map (λ (n : ℕ). n) es ≡ xs = map-id es ∙ e in
+    f (subst Rises (sym m) r) ∙ ap (λ (l : List ℕ). entry l row) m

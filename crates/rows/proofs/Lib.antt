@@ -1,5 +1,4 @@
 pub mod Ranging
 pub mod Viewing
 pub mod Entries
-pub mod Helds
 pub mod Buffered

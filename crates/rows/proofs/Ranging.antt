@@ -1,5 +1,5 @@
 -- The range that is read at a row is the stored node's.
-use Rattle.std.proofs.Common.{◌≡◌, ℕ, ◌+◌, ◌-◌, ◌<◌, ◌≤◌, List, [], length, get_or, sym, refl, ap, ◌∙◌, subst, ap₂, add_assoc, arith}
+use Rattle.std.proofs.Common.{◌≡◌, ℕ, ◌+◌, ◌-◌, ◌<◌, ◌≤◌, Bool, ◌⊎◌, List, [], length, get_or, sym, refl, ap, ◌∙◌, subst, inl, inr, ap₂, add_assoc, arith}
 use Rattle.formats.specs.declared.kind.Kind.{Kind}
 use Rattle.formats.specs.declared.kind.Kind.TheVariants.{Primitive, Boolean, Text, View, List as Listed, Map, Struct, RunEnds, FixedList}
 use Rattle.formats.specs.Kinds.{layout}
@@ -11,7 +11,7 @@ use Rattle.pools.specs.declared.records.Part.{Part}
 use Rattle.pools.specs.declared.records.Node.{Node as Entry}
 use Rattle.pools.specs.Store.{Store, Segment, Lies}
 use Rattle.pools.specs.Held.{own_buffers, BuffersLie, Held}
-use Rattle.rows.specs.Ranged.{row_range, text_part}
+use Rattle.rows.specs.Ranged.{between, row_range, text_part}
 use Rattle.pools.proofs.Fronts.{segment_at, segment_part, segment_length}
 
 -- a row's range, as a start and a length
@@ -31,6 +31,15 @@ no_offsets n e z i = ap (λ (os : List ℕ). get_or os i 0) (sym (ap (λ (b : Bu
 none_there : (n : Node) {b : Buffers} → own_buffers n ≡ b → b.offsets ≡ [] → (row : ℕ) →
     (0 ≡ get_or n.offsets row 0) × (0 ≡ get_or n.offsets (row + 1) 0 - get_or n.offsets row 0)
 none_there n e z row = (no_offsets n e z row, ap₂ ◌-◌ (no_offsets n e z (row + 1)) (no_offsets n e z row))
+
+-- a kind whose ranges are read by offsets
+abbrev pub ByOffsets : Kind → Type 0
+ByOffsets k = ((wide : Bool) × (k ≡ Text wide)) ⊎ (((wide : Bool) × (k ≡ Listed wide)) ⊎ (k ≡ Map))
+
+pub offsets_range : (os : List ℕ) (k : Kind) (place row : ℕ) → ByOffsets k → row_range os k place row ≡ between os (place + row)
+offsets_range os k place row (inl t) = ap (λ j. row_range os j place row) t.1
+offsets_range os k place row (inr (inl t)) = ap (λ j. row_range os j place row) t.1
+offsets_range os k place row (inr (inr t)) = ap (λ j. row_range os j place row) t
 
 range_of : (P : Store) (r : Entry) (k : Kind) (n : Node) → BuffersLie P r k n → (row : ℕ) → row < n.rows → Ranged (row_range P.offsets k r.place row) (layout k) n row
 range_of P r (Primitive w) n h row l = none_there n h.1 refl row

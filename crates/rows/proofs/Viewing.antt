@@ -1,6 +1,8 @@
 -- The parts of a view, by its halves.
-use Rattle.std.proofs.Common.{◌≡◌, ℕ, zero, suc, ◌+◌, ◌-◌, ◌*◌, ◌/◌, ◌%◌, ◌^◌, ◌<◌, Bool, true, false, cond, ltb, List, ◌++◌, get_or, sym, refl, ap, ◌∙◌, ⊎_elim, pow-suc, arith, pow-add}
+use Rattle.std.proofs.Common.{◌≡◌, ℕ, zero, suc, ◌+◌, ◌-◌, ◌*◌, ◌/◌, ◌%◌, ◌^◌, ◌<◌, Bool, true, false, cond, ltb, List, ◌∷◌, ◌++◌, get_or, sym, refl, ap, ◌∙◌, ap₂, ⊎_elim, pow-suc, arith, pow-add}
 use native.Mathlib.Nat.{div-div-eq-div-mul}
+use Rattle.std.proofs.Math.Nat.{div-one}
+use Rattle.std.specs.Int.{w64, byte_at, bytes_low_first, to_le_bytes}
 use Rattle.columns.specs.Column.{short, long}
 use Rattle.columns.specs.Bytes.{le_bytes}
 use Rattle.std.proofs.lemmas.List.{get_or_append_left, get_or-append_right}
@@ -28,10 +30,27 @@ short_inline : (b : Bool) (len a p o : ℕ) (inline : List ℕ) (len' : ℕ) (ke
 short_inline true len a p o inline len' kept e = cc
 short_inline false len a p o inline len' kept e = cc
 
-byte_powers : (i : ℕ) → 256 ^ i ≡ 2 ^ (8 * i)
+pub byte_powers : (i : ℕ) → 256 ^ i ≡ 2 ^ (8 * i)
 byte_powers zero = refl
 byte_powers (suc i) =
     pow-suc 256 i ∙ ap (λ n. n * 256) (byte_powers i) ∙ sym (pow-add 2 (8 * i) 8) ∙ ap (λ n. 2 ^ n) (let e : 8 * i + 8 ≡ 8 * suc i = omega arith in e)
+
+-- the library's bytes of a number, lowest first
+nth_byte : (i v : ℕ) → byte_at i v ≡ v / 256 ^ i % 256
+nth_byte zero v = ap (λ n. n % 256) (sym (div-one v))
+nth_byte (suc i) v = refl
+
+low_first : (i k v : ℕ) → bytes_low_first i k v ≡ le_bytes k (v / 256 ^ i)
+low_first i zero v = refl
+low_first i (suc k) v =
+    ap₂ ◌∷◌ (nth_byte i v) (low_first (suc i) k v ∙ ap (le_bytes k) (ap (λ n. v / n) (pow-suc 256 i) ∙ sym (div-div-eq-div-mul v (256 ^ i) 256)))
+
+pub eight_bytes : (v : ℕ) → to_le_bytes w64 v ≡ le_bytes 8 v
+eight_bytes v = low_first 0 8 v ∙ ap (le_bytes 8) (div-one v)
+
+pub byte_of_eight : (v i : ℕ) → i < 8 → get_or (to_le_bytes w64 v) i 0 ≡ v / 2 ^ (8 * i) % 256
+byte_of_eight v i l =
+    ap (λ (bs : List ℕ). get_or bs i 0) (eight_bytes v) ∙ numbers_read_back.little_byte 8 v i l ∙ ap (λ n. v / n % 256) (byte_powers i)
 
 low_byte : (low i : ℕ) → low / 2 ^ 32 / 256 ^ i % 256 ≡ low / 2 ^ (8 * (i + 4)) % 256
 low_byte low i =

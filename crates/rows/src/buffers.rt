@@ -2,15 +2,14 @@
 ghost use Rattle.std.specs.Prelude.{◌≡◌, ℕ, ◌+◌, ◌^◌, ◌<◌, ◌≤◌, List, [], length, slice_index, slice_index_or};
 ghost use Rattle.columns.specs.Says.{slice};
 ghost use Rattle.pools.specs.Shows.{Shelved};
-ghost use Rattle.pools.specs.Store.{store, Lies, no_part};
+ghost use Rattle.pools.specs.Store.{store, Lies};
 ghost use Rattle.rows.specs.Shelved.{buffer_number, buffer_part, buffered_part};
 
-use crate::ranges::inside;
 use pools::pools::Pools;
 use pools::records::{Node, Part};
 
 // The number of the data buffer at a position of a node's list.
-pub(crate) fn buffer_number(pools: &Pools<'_>, node: &Node, position: usize) -> usize
+fn buffer_number(pools: &Pools<'_>, node: &Node, position: usize) -> usize
     requires listed { node.now.buffers.start + position < length (store pools.now).lists }
     requires small { node.now.buffers.start + position < 2 ^ 64 }
     ensures { result ≡ buffer_number (store pools.now) node.now position }
@@ -33,14 +32,6 @@ pub fn buffered_text(
     ensures is { result ≡ buffered_part (store pools.now) node.now position offset len }
     ensures told { (listed : List ℕ) (shelved : List (List ℕ)) → Lies (store pools.now).lists node.now.buffers listed → Shelved (store pools.now) shelved → position < length listed → offset + len ≤ length (slice_index_or shelved (slice_index listed position) []) → Lies (store pools.now).bytes result (slice (slice_index_or shelved (slice_index listed position) []) offset len) }
 {
-    let buffer = shelved(pools, buffer_number(pools, node, position));
-    inside(buffer, Part { start: offset, len })
-}
-
-// The data buffer of a number.
-fn shelved(pools: &Pools<'_>, number: usize) -> Part
-    requires { number < length (store pools.now).buffers }
-    ensures { result ≡ slice_index_or (store pools.now).buffers number no_part }
-{
-    pools.buffers.get(number)
+    let buffer = pools.buffers.get(buffer_number(pools, node, position));
+    buffer.narrow(Part { start: offset, len })
 }

@@ -32,17 +32,14 @@ pub fn range_at(offsets: &Pool<'_, u64>, node: &Node, row: usize) -> Part
     ensures told { (P : Store) (n : Told) (children nodes : ℕ) → P.offsets ≡ used offsets.now → Held P node.now n children nodes → row < n.rows → (result.start ≡ (ranges (kind n) n).start row) × (result.len ≡ (ranges (kind n) n).size row) }
 {
     match node.kind {
-        Kind::Text { wide: _ } => between(offsets, node.place + row),
-        Kind::List { wide: _ } => between(offsets, node.place + row),
-        Kind::Map => between(offsets, node.place + row),
+        Kind::Text { .. } | Kind::List { .. } | Kind::Map => between(offsets, node.place + row),
         Kind::FixedList(size) => Part {
             start: row * size as usize,
             len: size as usize,
         },
-        Kind::Primitive(_) | Kind::Boolean | Kind::View | Kind::Struct | Kind::RunEnds => Part {
-            start: 0,
-            len: 0,
-        },
+        Kind::Primitive(_) | Kind::Boolean | Kind::View | Kind::Struct | Kind::RunEnds => {
+            Part::default()
+        }
     }
 }
 
@@ -54,16 +51,5 @@ pub fn text_at(offsets: &Pool<'_, u64>, node: &Node, row: usize) -> Part
     ensures told { (bytes : List ℕ) (n : Told) → Segment (used offsets.now) node.now.place (n.rows + 1) n.offsets → Lies bytes node.now.text n.text → row < n.rows → offset_start n row + offset_length n row ≤ length n.text → Lies bytes result (slice n.text (offset_start n row) (offset_length n row)) }
 {
     let range = between(offsets, node.place + row);
-    inside(node.text, range)
-}
-
-// A range of a part, as a part itself.
-pub(crate) fn inside(part: Part, range: Part) -> Part
-    requires { part.start + range.start < 2 ^ 64 }
-    ensures { result ≡ record { start = part.start + range.start; len = range.len } }
-{
-    Part {
-        start: part.start + range.start,
-        len: range.len,
-    }
+    node.text.narrow(range)
 }

@@ -1,5 +1,5 @@
 // Numbers by their width, and the run that a row is in.
-ghost use Rattle.std.specs.Prelude.{◌≡◌, ℕ, ◌+◌, ◌^◌, ◌<◌, ◌≤◌, List, length, slice_index};
+ghost use Rattle.std.specs.Prelude.{◌≡◌, ℕ, ◌+◌, ◌^◌, ◌<◌, ◌≤◌, List, map, length, slice_index};
 ghost use Rattle.columns.specs.Says.{entry};
 ghost use Rattle.pools.specs.Parts.{part_of, Inside};
 ghost use Rattle.pools.specs.Store.{store, Lies};
@@ -31,22 +31,19 @@ pub fn entry_of(pools: &Pools<'_>, width: Width, ends: Part, row: u64) -> usize
     ensures is { result ≡ entry (part_of (values_pool (store pools.now) width) ends) row }
     ensures told { (es : List ℕ) → Lies (values_pool (store pools.now) width) ends es → result ≡ entry es row }
 {
-    let mut low = 0;
-    let mut high = ends.len;
-    while low < high {
-        let middle = halfway(low, high);
-        if row < number_at(pools, width, ends.start + middle) {
-            high = middle;
-        } else {
-            low = middle + 1;
-        }
+    match width {
+        Width::One => run_of(pools.bytes.part(ends), row),
+        Width::Two => run_of(pools.shorts.part(ends), row),
+        Width::Four => run_of(pools.words.part(ends), row),
+        Width::Eight => run_of(pools.longs.part(ends), row),
     }
-    low
 }
 
-fn halfway(low: usize, high: usize) -> usize
-    requires { low < high }
-    ensures { (low ≤ result) × (result < high) }
+// The first end that is above the row, among ends of any width.
+fn run_of<T: Copy>(ends: &[T], row: u64) -> usize
+where
+    u64: From<T>,
+    ensures { (number : T → ℕ) → ((x : T) (n : ℕ) → ⟦<u64 as From<T>>⟧.from_gives x n → n ≡ number x) → Rises (map number ends.now) → result ≡ entry (map number ends.now) row }
 {
-    low + (high - low) / 2
+    ends.partition_point(|end| u64::from(*end) <= row)
 }

@@ -20,14 +20,7 @@ pub fn root_at(columns: &Pool<'_, ColumnEntry>, column: usize) -> usize
     ensures is { result ≡ (get_or (used columns.now) column no_column).root }
     ensures told { (P : Store) (cs : List Column) → P.columns ≡ used columns.now → ColumnsShown P cs → Stored P result (at cs column) }
 {
-    column_entry(columns, column).root
-}
-
-fn column_entry(columns: &Pool<'_, ColumnEntry>, column: usize) -> ColumnEntry
-    requires { column < length (used columns.now) }
-    ensures { result ≡ slice_index_or (used columns.now) column no_column }
-{
-    columns.get(column)
+    columns.get(column).root
 }
 
 // The node at a place.
@@ -35,13 +28,6 @@ pub fn node_at(nodes: &Pool<'_, Node>, place: usize) -> Node
     requires { place < length (used nodes.now) }
     ensures is { result ≡ slice_index_or (used nodes.now) place no_node }
     ensures told { (P : Store) (c : Column) → P.nodes ≡ used nodes.now → Stored P place c → Held P result (own_node c) (width (children c)) (node_count c) }
-{
-    entry(nodes, place)
-}
-
-fn entry(nodes: &Pool<'_, Node>, place: usize) -> Node
-    requires { place < length (used nodes.now) }
-    ensures { result ≡ slice_index_or (used nodes.now) place no_node }
 {
     nodes.get(place)
 }
@@ -61,13 +47,5 @@ pub fn next_child(nodes: &Pool<'_, Node>, place: usize) -> usize
     ensures is { result ≡ place + (get_or (used nodes.now) place no_node).span }
     ensures told { (P : Store) (cs : Columns) → P.nodes ≡ used nodes.now → 0 < width cs → EachStored P place cs → Stored P place (first cs) × EachStored P result (rest cs) }
 {
-    after(place, &entry(nodes, place))
-}
-
-// The place after a node's whole subtree.
-fn after(place: usize, node: &Node) -> usize
-    requires { place ≤ most_entries }
-    ensures { result ≡ place + node.now.span }
-{
-    place + node.span as usize
+    place + usize::from(nodes.get(place).span)
 }

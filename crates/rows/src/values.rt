@@ -10,7 +10,8 @@ ghost use Rattle.pools.specs.Held.{BitsLie, MaskLies, view_from};
 ghost use Rattle.rows.specs.Views.{parts_of, view_parts};
 ghost use Rattle.pools.specs.Bits.{bit_of, mask_bit, MaskThere};
 
-use crate::views::{ViewParts, take_apart};
+use crate::views::ViewParts;
+use pools::bits::bit;
 use pools::pool::Pool;
 use pools::records::View;
 
@@ -23,20 +24,13 @@ pub fn bit_at(bytes: &Pool<'_, u8>, place: usize, row: usize) -> bool
     bit(bytes.get(place + row / 8), row % 8)
 }
 
-// Bit i of a byte, the lowest being bit 0.
-fn bit(byte: u8, i: usize) -> bool
-    requires { i < 8 }
-    ensures { result ≡ (byte / 2 ^ i % 2 == 1) }
-{
-    (byte >> i) % 2 == 1
-}
-
 // Whether a row is valid; without a mask every row is.
 pub fn is_valid(bytes: &Pool<'_, u8>, mask: Option<usize>, row: usize) -> bool
     requires { MaskThere (used bytes.now) mask row }
     ensures is { result ≡ mask_bit (used bytes.now) mask row }
     ensures told { (rows : ℕ) (bits : Given (List Bool)) (spare : List Bool) → MaskLies (used bytes.now) mask rows bits spare → row < rows → result ≡ mask_valid bits row }
 {
+    // A match: from `is_none_or` a caller does not learn what `bit_at` says inside the closure.
     match mask {
         None => true,
         Some(place) => bit_at(bytes, place, row),
@@ -49,14 +43,7 @@ pub fn value_at<T: Copy>(values: &Pool<'_, T>, place: usize, row: usize) -> T
     ensures is { (d : _) → result ≡ slice_index_or (used values.now) (place + row) d }
     ensures told { (rows : ℕ) (vs : List _) (d : _) → Segment (used values.now) place rows vs → row < rows → result ≡ slice_index_or vs row d }
 {
-    from_place(values, place, row)
-}
-
-fn from_place<T: Copy>(entries: &Pool<'_, T>, place: usize, row: usize) -> T
-    requires { place + row < length (used entries.now) }
-    ensures { (d : _) → result ≡ slice_index_or (used entries.now) (place + row) d }
-{
-    entries.get(place + row)
+    values.get(place + row)
 }
 
 // The view of a row, taken apart.
@@ -65,5 +52,5 @@ pub fn view_at(views: &Pool<'_, View>, place: usize, row: usize) -> ViewParts
     ensures is { result ≡ parts_of (slice_index_or (used views.now) (place + row) no_halves) }
     ensures told { (rows : ℕ) (vs : List Viewed) → Segment (map view_from (used views.now)) place rows vs → row < rows → result ≡ view_parts (slice_index_or vs row (short 0 [])) }
 {
-    take_apart(from_place(views, place, row))
+    ViewParts::from(value_at(views, place, row))
 }

@@ -8,7 +8,7 @@ use pools::records::View;
 
 // Up to 12 bytes lie in the view itself; a longer text lies in a data buffer, which is named by its position in the
 // node's list of buffers.
-#[derive(Clone, Copy)]
+#[derive(Clone, Copy, PartialEq, Eq, Debug)]
 pub enum ViewParts {
     Inline {
         len: u32,
@@ -21,19 +21,21 @@ pub enum ViewParts {
     },
 }
 
-pub fn take_apart(view: View) -> ViewParts
-    ensures { result ≡ parts_of view }
-{
-    let len = low_bits(view.low);
-    if len > 12 {
-        ViewParts::Buffered {
-            len,
-            prefix: high_bits(view.low),
-            position: low_bits(view.high),
-            offset: high_bits(view.high),
+impl From<View> for ViewParts {
+    ghost from_gives = { λ view parts. parts ≡ parts_of view };
+
+    fn from(view: View) -> ViewParts {
+        let len = low_bits(view.low);
+        if len > 12 {
+            ViewParts::Buffered {
+                len,
+                prefix: high_bits(view.low),
+                position: low_bits(view.high),
+                offset: high_bits(view.high),
+            }
+        } else {
+            ViewParts::Inline { len }
         }
-    } else {
-        ViewParts::Inline { len }
     }
 }
 
@@ -55,42 +57,27 @@ pub fn inline_byte(view: View, i: usize) -> u8
     ensures is { result ≡ inline_byte view i }
     ensures told { (len : ℕ) (inline : List ℕ) → view_from view ≡ short len inline → result ≡ slice_index inline i }
 {
-    after_length(view, i)
-}
-
-fn after_length(view: View, i: usize) -> u8
-    requires { i < 12 }
-    ensures { result ≡ inline_byte view i }
-{
     if i < 4 {
-        byte_of(view.low, i + 4)
+        view.low.to_le_bytes()[i + 4]
     } else {
-        byte_of(view.high, i - 4)
+        view.high.to_le_bytes()[i - 4]
     }
-}
-
-// Byte i, the lowest being byte 0.
-fn byte_of(bits: u64, i: usize) -> u8
-    requires { i < 8 }
-    ensures { result ≡ bits / 2 ^ (8 * i) % 256 }
-{
-    ((bits >> (8 * i)) % 256) as u8
 }
 
 fn low_bits(bits: u64) -> u32
     ensures { result ≡ bits % 2 ^ 32 }
 {
-    (bits % 0x1_0000_0000) as u32
+    (bits & 0xffff_ffff) as u32
 }
 
 fn high_bits(bits: u64) -> u32
     ensures { result ≡ bits / 2 ^ 32 }
 {
-    (bits / 0x1_0000_0000) as u32
+    (bits >> 32) as u32
 }
 
 fn joined(low: u32, high: u32) -> u64
     ensures { result ≡ low + 2 ^ 32 * high }
 {
-    u64::from(low) + 0x1_0000_0000 * u64::from(high)
+    u64::from(low) | u64::from(high) << 32
 }

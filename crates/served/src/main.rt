@@ -3,7 +3,7 @@
 
 use pools::pool::Pool;
 use pools::pools::Pools;
-use shelf::blank::{NO_COLUMN, NO_NODE, NO_PART, NO_VIEW};
+use pools::records::{ColumnEntry, Node, Part, View};
 use shelf::owner::Shelf;
 use std::io;
 use wire::serve::serve;
@@ -15,59 +15,29 @@ const ENTRIES: usize = 2_048;
 const TEXT_BYTES: usize = 4_096;
 
 fn main(rt: HostRuntime) -> io::Result<()> {
-    let mut columns = [NO_COLUMN; ENTRIES];
-    let mut nodes = [NO_NODE; ENTRIES];
+    let mut columns = [ColumnEntry::default(); ENTRIES];
+    let mut nodes = [Node::default(); ENTRIES];
     let mut bytes = [0u8; ENTRIES];
     let mut shorts = [0u16; ENTRIES];
     let mut words = [0u32; ENTRIES];
     let mut longs = [0u64; ENTRIES];
     let mut offsets = [0u64; ENTRIES];
-    let mut views = [NO_VIEW; ENTRIES];
+    let mut views = [View::default(); ENTRIES];
     let mut lists = [0u32; ENTRIES];
-    let mut buffers = [NO_PART; ENTRIES];
+    let mut buffers = [Part::default(); ENTRIES];
     let mut slip = [(0u16, 0u32); ENTRIES];
     let mut text = [0u8; TEXT_BYTES];
     let pools = Pools {
-        columns: Pool {
-            lent: &mut columns,
-            mark: 0,
-        },
-        nodes: Pool {
-            lent: &mut nodes,
-            mark: 0,
-        },
-        bytes: Pool {
-            lent: &mut bytes,
-            mark: 0,
-        },
-        shorts: Pool {
-            lent: &mut shorts,
-            mark: 0,
-        },
-        words: Pool {
-            lent: &mut words,
-            mark: 0,
-        },
-        longs: Pool {
-            lent: &mut longs,
-            mark: 0,
-        },
-        offsets: Pool {
-            lent: &mut offsets,
-            mark: 0,
-        },
-        views: Pool {
-            lent: &mut views,
-            mark: 0,
-        },
-        lists: Pool {
-            lent: &mut lists,
-            mark: 0,
-        },
-        buffers: Pool {
-            lent: &mut buffers,
-            mark: 0,
-        },
+        columns: Pool::from(&mut columns[..]),
+        nodes: Pool::from(&mut nodes[..]),
+        bytes: Pool::from(&mut bytes[..]),
+        shorts: Pool::from(&mut shorts[..]),
+        words: Pool::from(&mut words[..]),
+        longs: Pool::from(&mut longs[..]),
+        offsets: Pool::from(&mut offsets[..]),
+        views: Pool::from(&mut views[..]),
+        lists: Pool::from(&mut lists[..]),
+        buffers: Pool::from(&mut buffers[..]),
     };
     let mut shelf = Shelf::new(pools, &mut slip);
     serve(

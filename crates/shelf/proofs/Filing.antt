@@ -17,8 +17,8 @@ use Rattle.pools.specs.Parts.{buffers_in}
 use Rattle.pools.specs.Marked.{marks_of, entries}
 use Rattle.pools.proofs.Rooms.{counts_are_marks}
 use Rattle.parcels.specs.Reads.{Within}
-use Rattle.admission.specs.declared.entries.Entries.{Entries as Listed}
-use Rattle.admission.specs.Needs.{listed}
+use Rattle.pools.specs.declared.entries.Entries.{Entries as Listed}
+use Rattle.pools.specs.Marked.{listed}
 use Rattle.admission.specs.Examine as examined
 use Rattle.parcels.specs.declared.draft.Draft.{Draft}
 use Rattle.parcels.specs.Drafts.{Outlined}

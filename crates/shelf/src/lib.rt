@@ -1,7 +1,6 @@
 // The shelf: the calls, and the memory that it is lent.
 #![tactic(auto)]
 
-pub mod blank;
 pub mod files;
 pub mod owner;
 pub mod reads;

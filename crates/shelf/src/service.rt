@@ -1,6 +1,5 @@
 // The shelf behind the wire form.
-ghost use Rattle.std.specs.Prelude.{◌≡◌};
-ghost use Rattle.shelf.specs.Told.{told};
+ghost use Rattle.shelf.specs.Served.{Serves, answer_of};
 
 use crate::owner::Shelf;
 use denials::Denial;
@@ -8,29 +7,24 @@ use wire::answer::Answer;
 use wire::call::Call;
 use wire::serve::Service;
 
-// A denial by its number and detail.
-fn no(denial: Denial) -> Answer
-    ensures { result ≡ told denial }
-{
-    Answer::No {
-        number: denial.number(),
-        detail: denial.detail(),
+impl Shelf<'_> {
+    // The answer to a call, or why it is denied.
+    fn served(&mut self, call: &Call<'_>, text: &mut [u8]) -> Result<Answer, Denial>
+        ensures { Serves call.now self.old self.new text.old text.new (answer_of result) }
+    {
+        match call {
+            Call::File { parcel } => Ok(Answer::Filed(self.file(parcel)?)),
+            Call::Interleave { .. } => Ok(Answer::Halt),
+            Call::Read { column, row } => Ok(Answer::Row(self.read(*column, *row, text)?)),
+        }
     }
 }
 
 // It files parcels and reads rows.
 impl Service for Shelf<'_> {
-    fn answer(&mut self, call: &Call<'_>, text: &mut [u8]) -> Answer {
-        match call {
-            Call::File { parcel } => match self.file(parcel) {
-                Ok(column) => Answer::Filed(column),
-                Err(denial) => no(denial),
-            },
-            Call::Interleave { .. } => Answer::Halt,
-            Call::Read { column, row } => match self.read(*column, *row, text) {
-                Ok(length) => Answer::Row(length),
-                Err(denial) => no(denial),
-            },
-        }
+    fn answer(&mut self, call: &Call<'_>, text: &mut [u8]) -> Answer
+        ensures { Serves call.now self.old self.new text.old text.new result }
+    {
+        self.served(call, text).unwrap_or_else(Answer::from)
     }
 }

@@ -7,22 +7,10 @@ use crate::owner::Shelf;
 use pools::pools::{Marks, Pools};
 
 // The pools that are lent, with every mark at 0.
-fn emptied<'a>(pools: Pools<'a>) -> Pools<'a>
+fn emptied<'a>(mut pools: Pools<'a>) -> Pools<'a>
     ensures { result ≡ marked no_marks pools.entry }
 {
-    let mut pools = pools;
-    pools.resume(Marks {
-        columns: 0,
-        nodes: 0,
-        bytes: 0,
-        shorts: 0,
-        words: 0,
-        longs: 0,
-        offsets: 0,
-        views: 0,
-        lists: 0,
-        buffers: 0,
-    });
+    pools.resume(Marks::default());
     pools
 }
 

@@ -9,7 +9,7 @@ use Rattle.soundness.specs.declared.sent.DataBuffer.{DataBuffer}
 use Rattle.soundness.specs.declared.sent.Sent.{Sent}
 use Rattle.soundness.specs.declared.sent.Sent.TheVariants.{Brought, Named}
 use Rattle.soundness.specs.Buffers.{sent_in, buffer_in, buffers_from}
-use Rattle.soundness.specs.Sources.{SentAt}
+use Rattle.soundness.specs.Sources.{SentAt, Told}
 use Rattle.soundness.proofs.Held.{data_named, data_brought, none_brought, one_brought}
 
 -- the first of them, and the others
@@ -42,10 +42,6 @@ buffers_next parcel at n next s h e a =
     buffers_open parcel at n h
     ∙ ap (λ (k : ℕ). buffer_in parcel at ∷ buffers_from parcel k (n - 1)) (sym a)
     ∙ ap (λ (x : Sent). (let b : DataBuffer = record { at = at; sent = x } in b) ∷ buffers_from parcel next (n - 1)) (sym (sent_is parcel at s e))
-
--- what is told of a data buffer that lies in the parcel
-abbrev pub Told : List ℕ → DataBuffer → Type 0
-Told parcel b = SentAt parcel b.at b.sent × (b.at + data_size parcel b.at ≤ length parcel)
 
 abbrev by : List ℕ → (at : ℕ) → Bool → Sent
 by parcel at b = cond b (Named (number_at parcel at)) (Brought (buffer_length (drop at parcel)))
@@ -115,3 +111,6 @@ unfolding buffers_from place_of
 get_or_buffers parcel at zero k d h = absurd (omega arith)
 get_or_buffers parcel at (suc n) zero d h = refl
 get_or_buffers parcel at (suc n) (suc k) d h = get_or_buffers parcel (at + data_size parcel at) n k d (omega arith)
+
+pub told_at : (parcel : List ℕ) (at n k : ℕ) → readable parcel at n ≡ true → k < n → Told parcel (buffer_in parcel (place_of parcel at k))
+told_at parcel at n k r h = (sent_at_by parcel (place_of parcel at k), readable_at parcel at n k r h)

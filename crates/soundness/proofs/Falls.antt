@@ -1,6 +1,7 @@
-use Rattle.std.proofs.Common.{◌≡◌, ℕ, zero, suc, ◌+◌, ◌-◌, ◌<◌, ◌≤◌, Bool, true, false, not, ◌&&◌, ◌||◌, eqb, ltb, leb, cond, List, [], ◌∷◌, length, get_or, drop, Some, None, Option, refl, sym, ap, ◌∙◌, inl, inr, arith}
-use Rattle.std.proofs.lemmas.List.{at_drop_more, at_drop_all, get_or-map, length-map}
+use Rattle.std.proofs.Common.{◌≡◌, ℕ, zero, suc, ◌+◌, ◌-◌, ◌<◌, Bool, true, false, not, ◌&&◌, ◌||◌, eqb, ltb, leb, cond, List, [], ◌∷◌, map, length, get_or, Some, None, Option, refl, sym, ap, ◌∙◌, inl, inr, arith}
+use Rattle.std.proofs.lemmas.List.{length-map}
 use Rattle.std.proofs.lemmas.Bool.{le-leb, lt-leb, lt-ltb, le-ltb, cases_lt}
+use Rattle.std.specs.List.{list_all, range_with_len}
 use Rattle.columns.specs.Says.{span}
 use Rattle.columns.specs.SoundTests.{never_fall, last_of, climbs}
 use Rattle.columns.specs.Contents.{values_in, value_at, bit_at, bits_in}
@@ -18,9 +19,8 @@ get_or_span a (suc n) (suc i) h = get_or_span (suc a) n i (omega arith) ∙ omeg
 pub length_values : (w n : ℕ) (bytes : List ℕ) → length (values_in w n bytes) ≡ n
 length_values w n bytes = length-map (span 0 n) (value_at w bytes) ∙ length_span 0 n
 
-pub get_or_values : (w n i : ℕ) (bytes : List ℕ) → i < n → get_or (values_in w n bytes) i 0 ≡ value_at w bytes i
-get_or_values w n i bytes h =
-    get_or-map (value_at w bytes) (span 0 n) i 0 0 (rw length_span h) ∙ ap (value_at w bytes) (get_or_span 0 n i h ∙ omega arith)
+pub length_bits : (n : ℕ) (bytes : List ℕ) → length (bits_in n bytes) ≡ n
+length_bits n bytes = length-map (span 0 n) (bit_at bytes) ∙ length_span 0 n
 
 -- offsets that are walked
 abbrev pub and_some : Option ℕ → (ℕ → Bool) → Bool
@@ -58,25 +58,11 @@ below_half top half p =
       | inr h ↦ le-ltb top half h ∙ sym (lt-leb top (half - 1) (omega arith))
     ]
 
--- what is left of the bits gives the whole
-pub length_bits : (n : ℕ) (bytes : List ℕ) → length (bits_in n bytes) ≡ n
-length_bits n bytes = length-map (span 0 n) (bit_at bytes) ∙ length_span 0 n
-
-pub get_or_bits : (n i : ℕ) (bytes : List ℕ) → i < n → get_or (bits_in n bytes) i false ≡ bit_at bytes i
-get_or_bits n i bytes h =
-    get_or-map (bit_at bytes) (span 0 n) i 0 false (rw length_span h) ∙ ap (bit_at bytes) (get_or_span 0 n i h ∙ omega arith)
-
-module _ (n : ℕ) (bytes : List ℕ) (i : ℕ) (b : Bool) (h : i < n) (e : b ≡ bit_at bytes i) (r : some_null (bits_in n bytes) ≡ some_null (drop i (bits_in n bytes))) where
-  null_opens : some_null (bits_in n bytes) ≡ (not b || some_null (drop (i + 1) (bits_in n bytes)))
-  null_opens =
-      r ∙ at_drop_more some_null (bits_in n bytes) i false (rw (length_bits n bytes) h)
-      ∙ ap (λ (x : Bool). not x || some_null (drop (i + 1) (bits_in n bytes))) (get_or_bits n i bytes h ∙ sym e)
-
-  pub null_more : b ≡ true → some_null (bits_in n bytes) ≡ some_null (drop (i + 1) (bits_in n bytes))
-  null_more t = null_opens ∙ ap (λ (x : Bool). not x || some_null (drop (i + 1) (bits_in n bytes))) t
-
-  pub null_found : b ≡ false → false ≡ not (some_null (bits_in n bytes))
-  null_found f = sym (ap not (null_opens ∙ ap (λ (x : Bool). not x || some_null (drop (i + 1) (bits_in n bytes))) f))
-
-pub null_none : (n : ℕ) (bytes : List ℕ) (i : ℕ) → n ≤ i → some_null (bits_in n bytes) ≡ some_null (drop i (bits_in n bytes)) → true ≡ not (some_null (bits_in n bytes))
-null_none n bytes i h r = sym (ap not (r ∙ at_drop_all some_null (bits_in n bytes) i (rw (length_bits n bytes) h)))
+-- no bit of a mask is 0
+pub all_set : (test : ℕ → Bool) (a n : ℕ) → list_all test (range_with_len a n) ≡ not (some_null (map test (span a n)))
+all_set test a zero = refl
+all_set test a (suc n) = all_by (test a) (list_all test (range_with_len (a + 1) n)) (some_null (map test (span (suc a) n))) (ap (λ (k : ℕ). list_all test (range_with_len k n)) (let e : a + 1 ≡ suc a = omega arith in e) ∙ all_set test (suc a) n)
+  where
+    all_by : (b c d : Bool) → c ≡ not d → (b && c) ≡ not (not b || d)
+    all_by true c d e = e
+    all_by false c d e = refl

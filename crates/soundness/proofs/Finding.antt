@@ -1,21 +1,26 @@
-use Rattle.std.proofs.Common.{◌≡◌, ℕ, ◌+◌, ◌-◌, ◌*◌, ◌/◌, ◌%◌, ◌<◌, ◌≤◌, Bool, true, false, ◌&&◌, eqb, ltb, leb, List, [], length, get_or, take, drop, set, sym, ap, ◌∙◌, subst, inl, inr, div-lt_iff_lt-mul, div-add-mod', mul-div_cancel, arith}
+use Rattle.std.proofs.Common.{◌≡◌, ℕ, ◌+◌, ◌*◌, ◌/◌, ◌%◌, ◌^◌, ◌<◌, ◌≤◌, Bool, true, ◌&&◌, eqb, ltb, leb, List, [], ◌∷◌, length, Some, Option, get_or, drop, set, sym, ap, ◌∙◌, subst, inl, inr, div-lt_iff_lt-mul, div-add-mod', mul-div_cancel, arith}
 use native.Mathlib.Nat.{mul-mod_left}
-use Rattle.std.proofs.lemmas.List.{at_drop_more, at_drop_all, get_or-map, length-map, get_or-set_same, get_or-set_other, get_or_past}
-use Rattle.std.proofs.lemmas.Bool.{lt-ltb, cond-true, cases_eq}
-use Rattle.columns.specs.Checks.{all_of}
-use Rattle.columns.specs.Column.{View, short, long, view_of}
+use Rattle.std.proofs.lemmas.List.{drop_more, drop_all, length-map, get_or-set_same, get_or-set_other, length-drop}
+use Rattle.std.proofs.lemmas.Bool.{lt-ltb, cond-true, cases_eq, cases_lt}
+use Rattle.std.specs.List.{slice_get}
+use Rattle.std.specs.Iterator.{YieldsFirst, SkipsThenYields}
+use Rattle.std.proofs.lemmas.Iterator.Adapters.{option_map_id}
+use Rattle.std.proofs.lemmas.Iterator.Consumers.{YieldsList-from_first, nth_from_yields_List}
+use Rattle.soundness.specs.declared.data_buffers.DataBuffers.{DataBuffers}
+use Rattle.std.proofs.lemmas.Option.{slice_get-get_or}
+use Rattle.columns.specs.Column.{short, long, view_of}
 use Rattle.columns.specs.Says.{span, slice}
 use Rattle.columns.specs.Sound.{little_endian}
-use Rattle.columns.specs.Sent.{is_named}
 use Rattle.columns.specs.Contents.{value_at, view_in, views_in}
 use Rattle.pools.specs.declared.records.Part.{Part}
-use Rattle.pools.specs.Parts.{part_of, buffers_in}
-use Rattle.parcels.specs.Lent.{place_of, readable, number_at, bytes_at}
+use Rattle.parcels.specs.Lent.{place_of, readable}
 use Rattle.parcels.proofs.Along.{length_span}
 use Rattle.parcels.proofs.Lents.{place_place, readable_part}
 use Rattle.soundness.specs.declared.places.Places.{Places}
-use Rattle.soundness.specs.Sources.{Indexed, source_at, view_fine}
-use Rattle.soundness.proofs.Falls.{get_or_span}
+use Rattle.soundness.specs.declared.sent.DataBuffer.{DataBuffer}
+use Rattle.soundness.specs.Buffers.{buffer_in, buffers_from}
+use Rattle.soundness.proofs.Buffers.{length_buffers, get_or_buffers}
+use Rattle.soundness.specs.Sources.{Indexed, view_fine}
 
 -- a stride of len / 256 + 1 gives at most 256 places
 pub in_places : (s len k : ℕ) → s ≡ len / 256 + 1 → k < len → k / s < 256
@@ -50,34 +55,52 @@ module _ (parcel : List ℕ) (lent : Part) (x : Places) (i : Indexed parcel lent
   before : get_or x.marks (k / x.stride) 0 ≡ place_of parcel lent.start (k / x.stride * x.stride)
   before = i.known (k / x.stride) (omega (arith, whole))
 
-  pub found_readable : readable parcel lent.start lent.len ≡ true → readable parcel (get_or x.marks (k / x.stride) 0) (k % x.stride) ≡ true
+  pub found_readable : readable parcel lent.start lent.len ≡ true → readable parcel (get_or x.marks (k / x.stride) 0) (k % x.stride + 1) ≡ true
   found_readable r =
-      subst (λ (at : ℕ). readable parcel at (k % x.stride) ≡ true) (sym before) (readable_part parcel lent.start lent.len (k / x.stride * x.stride) (k % x.stride) r (omega (arith, whole)))
+      subst (λ (at : ℕ). readable parcel at (k % x.stride + 1) ≡ true) (sym before) (readable_part parcel lent.start lent.len (k / x.stride * x.stride) (k % x.stride + 1) r (omega (arith, whole)))
 
   pub found_is : place_of parcel (get_or x.marks (k / x.stride) 0) (k % x.stride) ≡ place_of parcel lent.start k
   found_is =
       ap (λ (at : ℕ). place_of parcel at (k % x.stride)) before ∙ place_place parcel lent.start (k / x.stride * x.stride) (k % x.stride) ∙ ap (place_of parcel lent.start) whole
 
--- the bytes of a data buffer
-abbrev pub no_part : Part
-no_part = record { start = 0; len = 0 }
+-- the data buffers in a walk over them
+pub buffers_first : (parcel : List ℕ) (at n k : ℕ) (x : DataBuffer) (rest : List DataBuffer) → x ∷ rest ≡ drop k (buffers_from parcel at n) → (k < n) × (x ≡ buffer_in parcel (place_of parcel at k)) × (rest ≡ drop (k + 1) (buffers_from parcel at n))
+buffers_first parcel at n k x rest e =
+    let all : List DataBuffer = buffers_from parcel at n in
+    let l : length all ≡ n = length_buffers parcel at n in
+    elim (cases_lt k n) [
+      | inl h ↦
+          let d : x ∷ rest ≡ get_or all k x ∷ drop (k + 1) all = e ∙ drop_more all k x (omega (arith, l)) in
+          let a : x ≡ get_or all k x = cc in
+          let b : rest ≡ drop (k + 1) all = cc in
+          (h, a ∙ get_or_buffers parcel at n k x h, b)
+      | inr h ↦ let z : x ∷ rest ≡ [] = e ∙ drop_all k all (omega (arith, l)) in cc
+    ]
 
-module _ (parcel bytes : List ℕ) (buffers : List Part) (at number : ℕ) (e : is_named (drop at parcel) ≡ true) (n : number ≡ number_at parcel at) where
-  named_source : source_at parcel bytes buffers at ≡ get_or (buffers_in bytes buffers) number []
-  named_source =
-      cond-true (is_named (drop at parcel)) (get_or (buffers_in bytes buffers) (number_at parcel at) []) (bytes_at parcel at) e
-      ∙ ap (λ (k : ℕ). get_or (buffers_in bytes buffers) k []) (sym n)
+-- the walk's count fits
+pub walk_fits : (parcel p : List ℕ) (at n count a m : ℕ) → buffers_from p a m ≡ drop count (buffers_from parcel at n) → count ≤ n → n < 65536 → count + length (buffers_from p a m) < 2 ^ 64
+walk_fits parcel p at n count a m e h l = omega (arith, ap length e, length-drop count (buffers_from parcel at n), length_buffers parcel at n)
 
-  pub source_none : length buffers ≤ number → take (at - at) (drop at parcel) ≡ source_at parcel bytes buffers at
-  source_none h =
-      ap (λ (k : ℕ). take k (drop at parcel)) (let z : at - at ≡ 0 = omega arith in z)
-      ∙ sym (named_source ∙ get_or_past (buffers_in bytes buffers) number [] (subst (λ (k : ℕ). k ≤ number) (sym (length-map buffers (part_of bytes))) h))
+pub walk_end : (parcel p : List ℕ) (at n count a m : ℕ) → buffers_from p a m ≡ drop count (buffers_from parcel at n) → buffers_from p a m ≡ [] → n ≤ count
+walk_end parcel p at n count a m e z = omega (arith, ap length e, ap length z, length-drop count (buffers_from parcel at n), length_buffers parcel at n)
 
-  pub source_shelved : number < length buffers → (part : Part) → part ≡ get_or buffers number no_part → take (part.start + part.len - part.start) (drop part.start bytes) ≡ source_at parcel bytes buffers at
-  source_shelved l part p =
-      ap (λ (k : ℕ). take k (drop part.start bytes)) (let z : part.start + part.len - part.start ≡ part.len = omega arith in z)
-      ∙ ap (part_of bytes) p
-      ∙ sym (named_source ∙ get_or-map (part_of bytes) buffers number no_part [] l)
+-- one in a few steps
+pub nth_buffer : (parcel : List ℕ) (at n : ℕ) → slice_get (buffers_from parcel at (n + 1)) n ≡ Some (buffer_in parcel (place_of parcel at n))
+nth_buffer parcel at n =
+    let d : DataBuffer = buffer_in parcel 0 in
+    slice_get-get_or (buffers_from parcel at (n + 1)) n d (omega (arith, length_buffers parcel at (n + 1))) ∙ ap (λ (b : DataBuffer). Some b) (get_or_buffers parcel at (n + 1) n d (omega arith))
+
+module _ (parcel : List ℕ) (lent : Part) (x : Places) (i : Indexed parcel lent x) (k : ℕ) (h : k < lent.len) (l u : DataBuffers) (r : Option DataBuffer) where
+  pub nth_found : l.parcel.now ≡ parcel → l.at ≡ get_or x.marks (k / x.stride) 0 → l.left ≡ k % x.stride + 1
+      → SkipsThenYields (YieldsFirst {S = DataBuffers} (λ s. buffers_from s.parcel.now s.at s.left)) l (k % x.stride) r u → r ≡ Some (buffer_in parcel (place_of parcel lent.start k))
+  nth_found a b c ran =
+      let n : ℕ = k % x.stride in
+      let mark : ℕ = get_or x.marks (k / x.stride) 0 in
+      let e : buffers_from l.parcel.now l.at l.left ≡ buffers_from parcel mark (n + 1) = cc in
+      sym (option_map_id r)
+      ∙ nth_from_yields_List r u n ran (YieldsList-from_first {S = DataBuffers} (λ y. y) (λ s. buffers_from s.parcel.now s.at s.left) (buffers_from parcel mark (n + 1)) e)
+      ∙ nth_buffer parcel mark n
+      ∙ ap (λ (p : ℕ). Some (buffer_in parcel p)) (found_is parcel lent x i k h)
 
 -- a long view, by its four numbers
 module _ (source : ℕ → List ℕ) (count : ℕ) (view : List ℕ) (len prefix position offset : ℕ)
@@ -97,31 +120,5 @@ module _ (source : ℕ → List ℕ) (count : ℕ) (view : List ℕ) (len prefix
       ∙ ap (λ (x : Bool). x && leb (offset + len) (length (source position)) && last (source position)) (sym (lt-ltb position count p))
       ∙ ap (view_fine source count) (sym (view_is ∙ cond-true (ltb 12 len) (long len prefix position offset) (short len (drop 4 view)) (lt-ltb 12 len l)))
 
--- what is left of the views gives the whole
 pub length_views : (n : ℕ) (bytes : List ℕ) → length (views_in n bytes) ≡ n
 length_views n bytes = length-map (span 0 n) (λ i. view_in (slice bytes (16 * i) 16)) ∙ length_span 0 n
-
-abbrev none : View
-none = short 0 []
-
-get_or_views : (n i : ℕ) (bytes : List ℕ) → i < n → get_or (views_in n bytes) i none ≡ view_in (slice bytes (16 * i) 16)
-get_or_views n i bytes h =
-    get_or-map (λ (j : ℕ). view_in (slice bytes (16 * j) 16)) (span 0 n) i 0 none (rw length_span h) ∙ ap (λ (j : ℕ). view_in (slice bytes (16 * j) 16)) (get_or_span 0 n i h ∙ omega arith)
-
-module _ (test : View → Bool) (n : ℕ) (bytes : List ℕ) (i : ℕ) (r : Bool) (h : i < n) (e : r ≡ test (view_in (take (16 * i + 16 - 16 * i) (drop (16 * i) bytes))))
-    (g : all_of test (views_in n bytes) ≡ all_of test (drop i (views_in n bytes))) where
-  view_opens : all_of test (views_in n bytes) ≡ (r && all_of test (drop (i + 1) (views_in n bytes)))
-  view_opens =
-      g ∙ at_drop_more (all_of test) (views_in n bytes) i none (rw (length_views n bytes) h)
-      ∙ ap (λ (v : View). test v && all_of test (drop (i + 1) (views_in n bytes))) (get_or_views n i bytes h)
-      ∙ ap (λ (k : ℕ). test (view_in (take k (drop (16 * i) bytes))) && all_of test (drop (i + 1) (views_in n bytes))) (let z : 16 ≡ 16 * i + 16 - 16 * i = omega arith in z)
-      ∙ ap (λ (b : Bool). b && all_of test (drop (i + 1) (views_in n bytes))) (sym e)
-
-  pub views_more : r ≡ true → all_of test (views_in n bytes) ≡ all_of test (drop (i + 1) (views_in n bytes))
-  views_more t = view_opens ∙ ap (λ (b : Bool). b && all_of test (drop (i + 1) (views_in n bytes))) t
-
-  pub views_stop : r ≡ false → false ≡ all_of test (views_in n bytes)
-  views_stop f = sym (view_opens ∙ ap (λ (b : Bool). b && all_of test (drop (i + 1) (views_in n bytes))) f)
-
-pub views_all : (test : View → Bool) (n : ℕ) (bytes : List ℕ) (i : ℕ) → n ≤ i → all_of test (views_in n bytes) ≡ all_of test (drop i (views_in n bytes)) → true ≡ all_of test (views_in n bytes)
-views_all test n bytes i h g = sym (g ∙ at_drop_all (all_of test) (views_in n bytes) i (rw (length_views n bytes) h))

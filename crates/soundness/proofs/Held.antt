@@ -3,23 +3,22 @@ use mathlib.Core.Option as math
 use Rattle.std.proofs.lemmas.List.{append_assoc, length_push, length-append, length-map, get_or-map, get_or_at, get_or_append_left}
 use Rattle.std.proofs.lemmas.Bool.{cases_Bool, cases_lt, ltb-true, le-ltb}
 use Rattle.columns.specs.Checks.{all_of}
-use Rattle.columns.specs.Kinds.{Kind, strings, views}
+use Rattle.columns.specs.Kinds.{Kind, views}
 use Rattle.columns.specs.Column.{View, short, long}
 use Rattle.columns.specs.Says.{slice}
 use Rattle.columns.specs.Sound.{little_endian}
 use Rattle.columns.specs.Sent.{Data, brought, named, number_of, is_named}
-use Rattle.columns.specs.SoundTests.{view_sound, offsets_sound}
-use Rattle.columns.specs.Contents.{views_in, values_in, node_from}
+use Rattle.columns.specs.SoundTests.{view_sound}
+use Rattle.columns.specs.Contents.{views_in, node_from}
 use Rattle.pools.specs.declared.records.Part.{Part}
 use Rattle.pools.specs.Parts.{part_of, buffers_in}
 use Rattle.parcels.specs.declared.draft.Draft.{Draft}
 use Rattle.parcels.specs.Lent.{data_size, place_of, number_at, bytes_at, data_from, brought_from}
 use Rattle.parcels.specs.Reads.{sent_of, within}
 use Rattle.parcels.specs.Drafts.{Drafted, head_in, kind_sound_by}
-use Rattle.formats.specs.Kinds.{layout, offset_width}
+use Rattle.formats.specs.Kinds.{layout}
 use Rattle.soundness.specs.Sources.{view_fine, sources}
 use Rattle.soundness.specs.Ladder.{data_of, held_by, unshelved_in, kind_sound_in}
-use Rattle.soundness.proofs.Fills.{length_within}
 
 passed : (t : Bool) (b : ℕ) (x : math.Option ℕ) → cond t x (math.some b) ≡ math.none → (t ≡ true) × (x ≡ math.none)
 passed true b x e = (refl, e)
@@ -138,13 +137,6 @@ module _ (source : ℕ → List ℕ) (count : ℕ) (held : List (List ℕ)) (num
 module _ (parcel : List ℕ) (d : Draft) (g : Drafted parcel d) (bs : List (List ℕ)) where
   abbrev by : Kind → Bool
   by K = kind_sound_by (held_by parcel bs d) K (node_from K (head_in parcel d) (sent_of parcel d.parts (data_of parcel bs d))) d.below
-
-  pub text_sound : (w : ℕ) → layout d.kind ≡ strings → offset_width d.kind ≡ w
-      → kind_sound_in parcel bs d ≡ offsets_sound w (values_in w (d.head.rows + 1) (within parcel d.parts.body)) d.parts.text.len
-  text_sound w k o =
-      ap by (sym g.layout ∙ k)
-      ∙ ap (λ (v : ℕ). offsets_sound v (values_in v (d.head.rows + 1) (within parcel d.parts.body)) (length (within parcel d.parts.text))) (sym g.offsets ∙ o)
-      ∙ ap (offsets_sound w (values_in w (d.head.rows + 1) (within parcel d.parts.body))) (length_within parcel d.parts.text g.parts.text)
 
 module _ (parcel bytes : List ℕ) (buffers : List Part) (d : Draft) (g : Drafted parcel d) (more : List (List ℕ)) (k : layout d.kind ≡ views)
     (u : unshelved_in (length buffers) (data_of parcel (buffers_in bytes buffers ++ more) d) ≡ math.none) where

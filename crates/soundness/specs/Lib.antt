@@ -3,3 +3,4 @@ pub mod Sizes
 pub mod Sources
 pub mod Ladder
 pub mod Walks
+pub mod Props

@@ -3,12 +3,12 @@ ghost use Rattle.columns.specs.Sent.{Data};
 ghost use Rattle.columns.specs.SoundTests.{fills, mask_fills};
 ghost use Rattle.formats.specs.Kinds.{layout, offset_width};
 ghost use Rattle.parcels.specs.Reads.{mask_of, MaskWithin, sent_of};
-ghost use Rattle.parcels.specs.Drafts.{Drafted, kind_in, head_in};
+ghost use Rattle.parcels.specs.Drafts.{kind_in, head_in};
 ghost use Rattle.soundness.specs.Sizes.{body_by, MaskFilled, Filled};
 
+use crate::node::SentNode;
 use crate::values::{bit_bytes, offset_width};
 use formats::kind::Kind;
-use parcels::draft::Draft;
 use pools::records::Part;
 
 // The bytes of a kind's first buffer after its mask.
@@ -31,18 +31,15 @@ fn mask_filled(parcel: &[u8], mask: Option<Part>, rows: usize) -> bool
     ensures exact { result ≡ true → MaskFilled rows mask }
     ensures is { result ≡ mask_fills rows (mask_of parcel.now mask) }
 {
-    match mask {
-        Some(part) => part.len == bit_bytes(rows),
-        None => true,
-    }
+    mask.is_none_or(|part| part.len == bit_bytes(rows))
 }
 
 // The mask and the first buffer have exactly the bytes that the rows take.
-pub(crate) fn filled(parcel: &[u8], d: Draft) -> bool
-    requires { Drafted parcel.now d }
-    ensures exact { result ≡ true → Filled d }
-    ensures is { (ds : List Data) → result ≡ fills (kind_in parcel.now d) (head_in parcel.now d) (sent_of parcel.now d.parts ds) }
+pub(crate) fn filled(node: SentNode<'_>) -> bool
+    ensures exact { result ≡ true → Filled node.entry.draft }
+    ensures is { (ds : List Data) → result ≡ fills (kind_in node.entry.parcel.now node.entry.draft) (head_in node.entry.parcel.now node.entry.draft) (sent_of node.entry.parcel.now node.entry.draft.parts ds) }
 {
-    let rows = d.head.rows as usize;
-    mask_filled(parcel, d.parts.mask, rows) && d.parts.body.len == body_size(d.kind, rows)
+    let rows = node.rows();
+    let parts = node.draft.parts;
+    mask_filled(node.parcel, parts.mask, rows) && parts.body.len == body_size(node.draft.kind, rows)
 }

@@ -4,17 +4,17 @@ ghost use Rattle.std.specs.List.{AllByRecursion};
 ghost use Rattle.columns.specs.Checks.{first_denial};
 ghost use Rattle.formats.specs.Spelled.{lifted};
 ghost use Rattle.pools.specs.Parts.{buffers_in};
-ghost use Rattle.parcels.specs.Reads.{Within};
 ghost use Rattle.parcels.specs.Lent.{data_size, readable, data_from};
 ghost use Rattle.parcels.specs.Drafts.{Drafted, checks_of};
 ghost use Rattle.soundness.specs.Ladder.{beyond_of, unshelved_in, denial_in};
 
 use crate::data_buffers::DataBuffers;
+use crate::node::SentNode;
 use crate::sent::Sent;
+use crate::shelved::Shelved;
 use crate::sound::sound;
 use denials::Denial;
 use parcels::draft::Draft;
-use pools::records::Part;
 
 // The number by which a data buffer is sent, where no such buffer was shelved before.
 fn beyond(sent: Sent, before: usize) -> Option<usize>
@@ -34,21 +34,19 @@ pub(crate) fn missing(mut lent: DataBuffers<'_>, before: usize) -> Option<usize>
 }
 
 // The first denial of the drafts, by node: a data buffer that is not shelved, then unsound.
-pub fn first_denied(
-    parcel: &[u8],
-    bytes: &[u8],
-    buffers: &[Part],
-    drafts: &[Draft],
-) -> Result<(), Denial>
-    requires { (AllByRecursion (Drafted parcel.now) drafts.now) × (AllByRecursion (Within bytes.now) buffers.now) }
-    ensures { first_denial (checks_of parcel.now (length buffers.now) (buffers_in bytes.now buffers.now) 0 drafts.now) ≡ denial_in result }
+pub fn first_denied(parcel: &[u8], shelved: Shelved<'_>, drafts: &[Draft]) -> Result<(), Denial>
+    requires { AllByRecursion (Drafted parcel.now) drafts.now }
+    ensures { first_denial (checks_of parcel.now (length shelved.entry.buffers.now) (buffers_in shelved.entry.bytes.now shelved.entry.buffers.now) 0 drafts.now) ≡ denial_in result }
 {
     for (i, draft) in drafts.iter().enumerate() {
-        let d = *draft;
-        if let Some(number) = missing(DataBuffers::of(parcel, d.parts.lent), buffers.len()) {
+        let node = SentNode {
+            parcel,
+            draft: *draft,
+        };
+        if let Some(number) = missing(node.lent(), shelved.buffers.len()) {
             return Err(Denial::Missing(number));
         }
-        if !sound(parcel, bytes, buffers, d) {
+        if !sound(node, shelved) {
             return Err(Denial::Unsound(i));
         }
     }

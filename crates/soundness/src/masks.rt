@@ -3,23 +3,12 @@ ghost use Rattle.columns.specs.Column.{bytes_for};
 ghost use Rattle.columns.specs.Masks.{some_null};
 ghost use Rattle.columns.specs.Contents.{bit_at, bits_in};
 
-// Bit i, the lowest first.
-fn bit(bytes: &[u8], i: usize) -> bool
-    requires { i / 8 < length bytes.now }
-    ensures { result ≡ bit_at bytes.now i }
-{
-    (bytes[i / 8] >> (i % 8)) % 2 == 1
-}
+use pools::bits::bit;
 
 // No row is null by the mask.
 pub(crate) fn all_valid(mask: &[u8], rows: usize) -> bool
     requires { length mask.now ≡ bytes_for rows }
     ensures { result ≡ not (some_null (bits_in rows mask.now)) }
 {
-    for i in 0..rows {
-        if !bit(mask, i) {
-            return false;
-        }
-    }
-    true
+    (0..rows).all(|i| bit(mask[i / 8], i % 8))
 }

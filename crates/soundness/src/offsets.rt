@@ -10,6 +10,6 @@ use formats::format::Width;
 pub(crate) fn sound_offsets(body: &[u8], width: Width, bound: u64) -> bool
     ensures { result ≡ offsets_sound (bytes_of width) (all_values (bytes_of width) body.now) bound }
 {
-    last_in_order(body, width, |low, next| low <= next).is_some_and(|last| last <= bound
-        && last < half(width))
+    let last = last_in_order(body, width, |low, next| low <= next);
+    last.is_some_and(|end| end <= bound && end < half(width))
 }

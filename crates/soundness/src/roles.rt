@@ -6,14 +6,15 @@ ghost use Rattle.columns.specs.Contents.{values_in};
 ghost use Rattle.formats.specs.Spelled.{bytes_of};
 ghost use Rattle.parcels.specs.Reads.{MaskWithin, mask_of, within};
 ghost use Rattle.parcels.specs.Roles.{role_of};
-ghost use Rattle.parcels.specs.Drafts.{Drafted, node_in};
+ghost use Rattle.parcels.specs.Drafts.{node_in};
 ghost use Rattle.soundness.specs.Sizes.{Filled, MaskFilled, null_in};
 
 use crate::ends::sound_ends;
 use crate::masks::all_valid;
+use crate::node::SentNode;
 use formats::format::Width;
 use formats::kind::Kind;
-use parcels::draft::{Draft, Role};
+use parcels::draft::Role;
 use pools::records::Part;
 
 // No row is null, by a mask if there is one.
@@ -21,30 +22,27 @@ fn no_nulls(parcel: &[u8], mask: Option<Part>, rows: usize) -> bool
     requires { (MaskWithin parcel.now mask) × (MaskFilled rows mask) }
     ensures { result ≡ not (null_in rows (mask_of parcel.now mask)) }
 {
-    match mask {
-        Some(part) => all_valid(part.of(parcel), rows),
-        None => true,
-    }
+    mask.is_none_or(|part| all_valid(part.of(parcel), rows))
 }
 
-fn ends_reach(parcel: &[u8], d: Draft, width: Width, top: u64) -> bool
-    requires { (Drafted parcel.now d) × (d.parts.body.len ≡ bytes_of width * d.head.rows) }
-    ensures { result ≡ (climbs 0 (values_in (bytes_of width) d.head.rows (within parcel.now d.parts.body)) top && nat_le top (highest (bytes_of width))) }
+fn ends_reach(node: SentNode<'_>, width: Width, top: u64) -> bool
+    requires { node.draft.parts.body.len ≡ bytes_of width * node.draft.head.rows }
+    ensures { result ≡ (climbs 0 (values_in (bytes_of width) node.entry.draft.head.rows (within node.entry.parcel.now node.entry.draft.parts.body)) top && nat_le top (highest (bytes_of width))) }
 {
-    sound_ends(d.parts.body.of(parcel), width, top)
+    sound_ends(node.body(), width, top)
 }
 
 // Whether a node is sound as its parent asks: run ends climb to the parent's rows, and no entry of a map is null. A node
 // that has no values has no run ends.
-pub(crate) fn role_sound(parcel: &[u8], d: Draft) -> bool
-    requires { (Drafted parcel.now d) × (Filled d) }
-    ensures { (ds : List Data) → result ≡ role_sound (role_of d.role) (node_in parcel.now d ds) }
+pub(crate) fn role_sound(node: SentNode<'_>) -> bool
+    requires { Filled node.draft }
+    ensures { (ds : List Data) → result ≡ role_sound (role_of node.entry.draft.role) (node_in node.entry.parcel.now node.entry.draft ds) }
 {
-    match d.role {
+    match node.draft.role {
         Role::Free => true,
-        Role::Entries => no_nulls(parcel, d.parts.mask, d.head.rows as usize),
-        Role::Ends(top) => match d.kind {
-            Kind::Primitive(width) => ends_reach(parcel, d, width, top as u64),
+        Role::Entries => no_nulls(node.parcel, node.draft.parts.mask, node.rows()),
+        Role::Ends(top) => match node.draft.kind {
+            Kind::Primitive(width) => ends_reach(node, width, u64::from(top)),
             _ => top == 0,
         },
     }

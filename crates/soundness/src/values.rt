@@ -63,5 +63,5 @@ pub fn bit_bytes(rows: usize) -> usize
     ensures is { result ≡ bytes_for rows }
     ensures low { result ≤ 131072 }
 {
-    (rows + 7) / 8
+    rows.div_ceil(8)
 }

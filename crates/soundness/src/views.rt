@@ -6,12 +6,13 @@ ghost use Rattle.columns.specs.Sound.{little_endian};
 ghost use Rattle.columns.specs.Contents.{view_in, views_in};
 ghost use Rattle.parcels.specs.Reads.{Within};
 ghost use Rattle.parcels.specs.Lent.{readable};
-ghost use Rattle.soundness.specs.Sources.{Indexed, sources, view_fine};
+ghost use Rattle.soundness.specs.Sources.{sources, view_fine};
+ghost use Rattle.parcels.specs.Reads.{within};
 
-use crate::lents::{find, places_of, source};
-use crate::places::Places;
+use crate::index::Index;
+use crate::node::SentNode;
+use crate::shelved::Shelved;
 use pools::laid::Laid;
-use pools::records::Part;
 
 // A text of this length lies in a data buffer at the offset, and begins with the prefix.
 fn holds(source: &[u8], offset: u32, len: u32, prefix: u32) -> bool
@@ -23,63 +24,31 @@ fn holds(source: &[u8], offset: u32, len: u32, prefix: u32) -> bool
 }
 
 // A long view's position is in the node's list, its text in that data buffer, and its prefix the text's first bytes.
-fn sound_view(
-    parcel: &[u8],
-    bytes: &[u8],
-    buffers: &[Part],
-    lent: Part,
-    places: &Places,
-    view: &[u8],
-) -> bool
-    requires size { length view.now ≡ 16 }
-    requires listed { readable parcel.now lent.start lent.len ≡ true }
-    requires few { lent.len < 65536 }
-    requires indexed { Indexed parcel.now lent places.now }
-    requires inside { AllByRecursion (Within bytes.now) buffers.now }
-    ensures { result ≡ view_fine (sources parcel.now bytes.now buffers.now lent) lent.len (view_in view.now) }
+fn sound_view(index: &Index<'_>, shelved: Shelved<'_>, view: &[u8]) -> bool
+    requires { length view.now ≡ 16 }
+    ensures { result ≡ view_fine (sources index.now.node.parcel.now shelved.entry.bytes.now shelved.entry.buffers.now index.now.node.draft.parts.lent) index.now.node.draft.parts.lent.len (view_in view.now) }
 {
     let len = u32::first_of(view);
     if len <= 12 {
         return true;
     }
     let prefix = u32::first_of(&view[4..]);
-    let position = u32::first_of(&view[8..]);
+    let position = u32::first_of(&view[8..]) as usize;
     let offset = u32::first_of(&view[12..]);
-    if position as usize >= lent.len {
+    if position >= index.node.draft.parts.lent.len {
         return false;
     }
-    let text = source(
-        parcel,
-        bytes,
-        buffers,
-        find(parcel, lent, places, position as usize),
-    );
+    let text = shelved.source(index.node.parcel, index.find(position));
     holds(text, offset, len, prefix)
 }
 
 // Whether all views of a node are sound. A view costs a few steps, and 255 at most over 65,535 data buffers.
-pub(crate) fn sound_views(
-    parcel: &[u8],
-    bytes: &[u8],
-    buffers: &[Part],
-    lent: Part,
-    views: &[u8],
-    rows: usize,
-) -> bool
-    requires size { length views.now ≡ 16 * rows }
-    requires listed { readable parcel.now lent.start lent.len ≡ true }
-    requires few { lent.len < 65536 }
-    requires inside { AllByRecursion (Within bytes.now) buffers.now }
-    requires low { rows ≤ 1048576 }
-    ensures { result ≡ all_of (view_fine (sources parcel.now bytes.now buffers.now lent) lent.len) (views_in rows views.now) }
+pub(crate) fn sound_views(node: SentNode<'_>, shelved: Shelved<'_>) -> bool
+    requires { node.draft.parts.body.len ≡ 16 * node.draft.head.rows }
+    ensures { result ≡ all_of (view_fine (sources node.entry.parcel.now shelved.entry.bytes.now shelved.entry.buffers.now node.entry.draft.parts.lent) node.entry.draft.parts.lent.len) (views_in node.entry.draft.head.rows (within node.entry.parcel.now node.entry.draft.parts.body)) }
 {
-    let places = places_of(parcel, lent);
-    for i in 0..rows {
-        let start = 16 * i;
-        let end = 16 * i + 16;
-        if !sound_view(parcel, bytes, buffers, lent, &places, &views[start..end]) {
-            return false;
-        }
-    }
-    true
+    let index = Index::of(node);
+    node.body()
+        .chunks_exact(16)
+        .all(|view| sound_view(&index, shelved, view))
 }

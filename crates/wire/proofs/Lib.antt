@@ -1,3 +1,3 @@
-pub mod Growing
 pub mod Reaching
 pub mod Encoding
+pub mod Entries

@@ -1,86 +1,109 @@
 -- How far a call reaches, as more of it is read.
-use Rattle.std.proofs.Common.{◌≡◌, ℕ, ◌+◌, ◌-◌, ◌*◌, ◌<◌, ◌≤◌, Bool, true, false, cond, eqb, ◌⊎◌, List, [], ◌∷◌, ◌++◌, length, take, sym, refl, ap, ◌∙◌, ap₂, inl, inr, suc-add, zero-add, arith, rules}
+use Rattle.std.proofs.Common.{◌≡◌, ℕ, ◌+◌, ◌-◌, ◌*◌, ◌<◌, ◌≤◌, ◌⊎◌, List, [], ◌∷◌, ◌++◌, length, take, Result, Ok, Err, sym, refl, ap, ◌∙◌, ap₂, inl, inr, arith, rules}
 use Rattle.std.proofs.lemmas.List.{get_or_append_left, length-append, length-take-le, take-append-le}
+use Rattle.std.proofs.lemmas.Bool.{cond-false, le-ltb}
+use Rattle.std.proofs.Math.Seq.{take-append-add}
 use borrow.Rule.Slice.PartMut.{put_mid, post_of}
-use Rattle.wire.specs.Calls.{head_size, call_size, reach, extent_of, OneCall, u16_at, u32_at, most_bytes}
-use Rattle.wire.specs.declared.call.Extent.TheVariants.{Has, Lacks}
+use Rattle.wire.specs.Calls.{head_size, call_size, kind_of, ◌>>=◌, at_least, reach, extent_of, OneCall, u16_at, u32_at, most_bytes}
+use Rattle.wire.specs.declared.kind.Kind.{Kind}
+use Rattle.wire.specs.declared.kind.Kind.TheVariants.{File, Interleave, Read}
+use Rattle.wire.specs.declared.call.Unread.{Unread}
+use Rattle.wire.specs.declared.call.Unread.TheVariants.{CutOff}
+use Rattle.wire.proofs.Entries.{u16_same, u32_same}
 
 -- What is known of a call that is there whole, and of one that lacks some bytes.
-abbrev pub Whole : ℕ → List ℕ → ℕ → Type 0
-Whole l xs size = (head_size l ≤ length xs) × (call_size l xs ≤ length xs) × (size ≡ call_size l xs)
+abbrev pub Whole : Kind → List ℕ → ℕ → Type 0
+Whole k xs size = (head_size k ≤ length xs) × (call_size k xs ≤ length xs) × (size ≡ call_size k xs)
 
-abbrev pub Short : ℕ → List ℕ → ℕ → Type 0
-Short l xs m = ((length xs < head_size l) × (m ≡ head_size l - length xs))
-    ⊎ ((head_size l ≤ length xs) × (length xs < call_size l xs) × (m ≡ call_size l xs - length xs))
+abbrev pub Short : Kind → List ℕ → ℕ → Type 0
+Short k xs m = ((length xs < head_size k) × (m ≡ head_size k - length xs))
+    ⊎ ((head_size k ≤ length xs) × (length xs < call_size k xs) × (m ≡ call_size k xs - length xs))
 
-reach_whole : (l : ℕ) (xs : List ℕ) (size : ℕ) → reach l xs ≡ Has size → Whole l xs size
-reach_whole l xs size e = search rules
+reach_whole : (k : Kind) (xs : List ℕ) (size : ℕ) → reach k xs ≡ Ok size → Whole k xs size
+reach_whole k xs size e = search rules
 
-reach_short : (l : ℕ) (xs : List ℕ) (m : ℕ) → reach l xs ≡ Lacks m → Short l xs m
-reach_short l xs m e = search rules
+reach_short : (k : Kind) (xs : List ℕ) (m : ℕ) → reach k xs ≡ Err (CutOff m) → Short k xs m
+reach_short k xs m e = search rules
 
 -- A number that is there already stays as more is read.
 u16_on : (xs more : List ℕ) (i : ℕ) → i + 2 ≤ length xs → u16_at (xs ++ more) i ≡ u16_at xs i
-u16_on xs more i h =
-    ap₂ (λ a b. 256 * a + b) (get_or_append_left xs more 0 i (omega arith)) (get_or_append_left xs more 0 (i + 1) (omega arith))
+u16_on xs more i h = u16_same (xs ++ more) i xs i (λ k l. get_or_append_left xs more 0 (i + k) (omega arith))
 
 u32_on : (xs more : List ℕ) (i : ℕ) → i + 4 ≤ length xs → u32_at (xs ++ more) i ≡ u32_at xs i
-u32_on xs more i h =
-    let a = get_or_append_left xs more 0 i (omega arith) in let b = get_or_append_left xs more 0 (i + 1) (omega arith) in
-    let c = get_or_append_left xs more 0 (i + 2) (omega arith) in let d = get_or_append_left xs more 0 (i + 3) (omega arith) in
-    omega (arith, a, b, c, d)
-
--- The letter as three tests: is it F, is it I, is it R.
-size_by : (F I R : Bool) (xs more : List ℕ) → cond F 5 (cond I 7 (cond R 9 0)) ≤ length xs →
-    cond F (5 + u32_at (xs ++ more) 1) (cond I (7 + 4 * u16_at (xs ++ more) 1 + 6 * u32_at (xs ++ more) 3) (cond R 9 0))
-    ≡ cond F (5 + u32_at xs 1) (cond I (7 + 4 * u16_at xs 1 + 6 * u32_at xs 3) (cond R 9 0))
-size_by true I R xs more h = ap (λ n. 5 + n) (u32_on xs more 1 (omega arith))
-size_by false true R xs more h = ap₂ (λ n m. 7 + 4 * n + 6 * m) (u16_on xs more 1 (omega arith)) (u32_on xs more 3 (omega arith))
-size_by false false true xs more h = refl
-size_by false false false xs more h = refl
+u32_on xs more i h = u32_same (xs ++ more) i xs i (λ k l. get_or_append_left xs more 0 (i + k) (omega arith))
 
 -- What a whole head tells stays as more is read.
-size_on : (l : ℕ) (xs more : List ℕ) → head_size l ≤ length xs → call_size l (xs ++ more) ≡ call_size l xs
-size_on l xs more h = size_by (eqb l 70) (eqb l 73) (eqb l 82) xs more h
+size_on : (k : Kind) (xs more : List ℕ) → head_size k ≤ length xs → call_size k (xs ++ more) ≡ call_size k xs
+size_on File xs more h = ap (λ n. 5 + n) (u32_on xs more 1 (omega arith))
+size_on Interleave xs more h = ap₂ (λ n m. 7 + 4 * n + 6 * m) (u16_on xs more 1 (omega arith)) (u32_on xs more 3 (omega arith))
+size_on Read xs more h = refl
 
-at_least_head : (l : ℕ) (xs : List ℕ) → head_size l ≤ call_size l xs
-at_least_head l xs = search rules
+at_least_head : (k : Kind) (xs : List ℕ) → head_size k ≤ call_size k xs
+at_least_head File xs = omega arith
+at_least_head Interleave xs = omega arith
+at_least_head Read xs = omega arith
 
 -- One that lacks some bytes and gets no more than these is no longer than what is there.
-reach_on : (l : ℕ) (xs more : List ℕ) (m size : ℕ) → Short l xs m → length more ≤ m → Whole l (xs ++ more) size → size ≡ length (xs ++ more)
-reach_on l xs more m size (inl (short, is)) fits (head, whole, sized) =
-    let a = length-append xs more in let b = at_least_head l (xs ++ more) in omega arith
-reach_on l xs more m size (inr (there, short, is)) fits (head, whole, sized) =
-    let a = length-append xs more in let b = size_on l xs more there in omega arith
+reach_on : (k : Kind) (xs more : List ℕ) (m size : ℕ) → Short k xs m → length more ≤ m → Whole k (xs ++ more) size → size ≡ length (xs ++ more)
+reach_on k xs more m size (inl (short, is)) fits (head, whole, sized) =
+    let a = length-append xs more in let b = at_least_head k (xs ++ more) in omega arith
+reach_on k xs more m size (inr (there, short, is)) fits (head, whole, sized) =
+    let a = length-append xs more in let b = size_on k xs more there in omega arith
 
-extent_has : (l : ℕ) (xs : List ℕ) (size : ℕ) → extent_of (l ∷ xs) ≡ Has size → reach l (l ∷ xs) ≡ Has size
-extent_has l xs size h = search rules
+-- A kind with a size, and the size alone.
+abbrev pub with_kind : Kind → Result ℕ Unread → Result (Kind × ℕ) Unread
+with_kind kind r = do
+  size ← r
+  Ok (kind, size)
 
-extent_lacks : (l : ℕ) (xs : List ℕ) (m : ℕ) → extent_of (l ∷ xs) ≡ Lacks m → reach l (l ∷ xs) ≡ Lacks m
-extent_lacks l xs m h = search rules
+abbrev pub size_of : Result (Kind × ℕ) Unread → Result ℕ Unread
+size_of r = do
+  call ← r
+  Ok call.1
 
-known_head : (l : ℕ) (xs : List ℕ) (size : ℕ) → extent_of (l ∷ xs) ≡ Has size → 5 ≤ head_size l
-known_head l xs size h = search rules
+size_alone : (k : Kind) (r : Result ℕ Unread) → size_of (with_kind k r) ≡ r
+size_alone k (Ok size) = refl
+size_alone k (Err e) = refl
 
-pub one_call_on : (xs more : List ℕ) (m : ℕ) → extent_of xs ≡ Lacks m → length more ≤ m → OneCall (xs ++ more)
-one_call_on [] [] m e fits size whole = search rules
-one_call_on [] (b ∷ []) m e fits size whole =
-    let w = reach_whole b (b ∷ []) size (extent_has b [] size whole) in let k = known_head b [] size whole in absurd (omega (arith, w.0))
-one_call_on [] (b ∷ d ∷ bs) m e fits size whole = let one : m ≡ 1 = search rules in absurd (omega arith)
+-- How far the call reaches whose letter has this kind.
+abbrev pub reach_by : Result Kind Unread → List ℕ → Result ℕ Unread
+reach_by known input = size_of (known >>= λ kind. with_kind kind (reach kind input))
+
+known_on : (known : Result Kind Unread) (xs more : List ℕ) (m size : ℕ) → reach_by known xs ≡ Err (CutOff m) → length more ≤ m →
+    reach_by known (xs ++ more) ≡ Ok size → size ≡ length (xs ++ more)
+known_on (Ok k) xs more m size e fits whole =
+    reach_on k xs more m size (reach_short k xs m (sym (size_alone k (reach k xs)) ∙ e)) fits
+    (reach_whole k (xs ++ more) size (sym (size_alone k (reach k (xs ++ more))) ∙ whole))
+known_on (Err u) xs more m size e fits whole = cc
+
+-- What is there is not lacking, and a letter that is there tells the kind.
+pub there_is : (xs : List ℕ) (size : ℕ) → size ≤ length xs → at_least xs size ≡ Ok tt
+there_is xs size h = cond-false _ _ _ (le-ltb (length xs) size h)
+
+pub lettered : (l : ℕ) (xs : List ℕ) → extent_of (l ∷ xs) ≡ reach_by (kind_of l) (l ∷ xs)
+lettered l xs =
+    ap (λ r. size_of (r >>= λ _. kind_of l >>= λ kind. with_kind kind (reach kind (l ∷ xs)))) (there_is (l ∷ xs) 1 (omega arith))
+
+-- A letter alone is no whole call.
+one_byte : (known : Result Kind Unread) (b size : ℕ) → reach_by known (b ∷ []) ≡ Ok size → size ≡ 1
+one_byte (Ok File) b size e = cc
+one_byte (Ok Interleave) b size e = cc
+one_byte (Ok Read) b size e = cc
+one_byte (Err u) b size e = cc
+
+pub one_call_on : (xs more : List ℕ) (m : ℕ) → extent_of xs ≡ Err (CutOff m) → length more ≤ m → OneCall (xs ++ more)
+one_call_on [] [] m e fits size whole = cc
+one_call_on [] (b ∷ []) m e fits size whole = one_byte (kind_of b) b size (sym (lettered b []) ∙ whole)
+one_call_on [] (b ∷ d ∷ bs) m e fits size whole = let one : m ≡ 1 = cc in absurd (omega arith)
 one_call_on (l ∷ xs) more m e fits size whole =
-    reach_on l (l ∷ xs) more m size (reach_short l (l ∷ xs) m (extent_lacks l xs m e)) fits
-    (reach_whole l (l ∷ xs ++ more) size (extent_has l (xs ++ more) size whole))
+    known_on (kind_of l) (l ∷ xs) more m size (sym (lettered l xs) ∙ e) fits (sym (lettered l (xs ++ more)) ∙ whole)
 
 -- What lacks some bytes has room for them.
-pub lacks_room : (xs : List ℕ) (m : ℕ) → extent_of xs ≡ Lacks m → length xs + m ≤ most_bytes
+pub lacks_room : (xs : List ℕ) (m : ℕ) → extent_of xs ≡ Err (CutOff m) → length xs + m ≤ most_bytes
 lacks_room xs m e = search rules
-
-take_append_add : {X : Type 0} (xs ys : List X) (n : ℕ) → take (length xs + n) (xs ++ ys) ≡ xs ++ take n ys
-take_append_add [] ys n = ap (λ m. take m ys) (zero-add n)
-take_append_add (x ∷ xs) ys n = ap (λ m. take m (x ∷ xs ++ ys)) (suc-add (length xs) n) ∙ ap (λ zs. x ∷ zs) (take_append_add xs ys n)
 
 -- What a read of n bytes leaves at the front: what was there, and those.
 pub front_on : (f k n : ℕ) (held buf : List ℕ) → f ≤ length held → n ≤ length buf → take (f + n) (put_mid f k held buf) ≡ take f held ++ take n buf
 front_on f k n held buf inside fits =
     ap (λ m. take (m + n) (put_mid f k held buf)) (sym (length-take-le f held inside))
-    ∙ (take_append_add (take f held) (buf ++ post_of f k held) n ∙ ap (λ xs. take f held ++ xs) (take-append-le n buf (post_of f k held) fits))
+    ∙ (take-append-add (take f held) (buf ++ post_of f k held) n ∙ ap (λ xs. take f held ++ xs) (take-append-le n buf (post_of f k held) fits))

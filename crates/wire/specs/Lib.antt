@@ -1,3 +1,5 @@
 pub mod Calls
 pub mod Lines
 pub mod Encoded
+pub mod Told
+pub mod Reasons

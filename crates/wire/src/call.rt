@@ -1,4 +1,11 @@
-// The calls that the program takes, and what the front of its input can be.
+// The calls that the program takes, and why there is none at the front of an input.
+ghost use Rattle.wire.specs.declared.call.DecodeError.TheVariants.{Memory, Unread as NoCall};
+ghost use Rattle.std.specs.Prelude.{◌≡◌, Some};
+ghost use Rattle.wire.specs.Reasons.{reason, failure};
+
+use std::alloc::AllocError;
+use std::error::Error;
+use std::fmt;
 
 // One call; a parcel is lent by the bytes that it was decoded from.
 #[derive(Drop)]
@@ -16,11 +23,9 @@ pub enum Call<'a> {
     },
 }
 
-// The front of an input, decoded.
-#[derive(Drop)]
-pub enum Decoded<'a> {
-    // a whole call, and the bytes after it
-    Whole { call: Call<'a>, rest: &'a [u8] },
+// Why no call can be read at the front of an input.
+#[derive(Clone, Copy, PartialEq, Eq, Debug)]
+pub enum Unread {
     // the beginning of a call, which lacks so many bytes at least
     CutOff { lacks: usize },
     // no call's letter
@@ -29,13 +34,53 @@ pub enum Decoded<'a> {
     TooLong,
 }
 
-// How far the call at the front of an input reaches.
+impl fmt::Display for Unread {
+    ghost output = { λ why. Some (reason why) };
+
+    fn fmt<W: fmt::Write>(&self, f: &mut fmt::Formatter<W>) -> fmt::Result {
+        match self {
+            Unread::CutOff { lacks } => write!(f, "the call lacks {lacks} bytes or more"),
+            Unread::Unknown => write!(f, "no call has this letter"),
+            Unread::TooLong => write!(f, "the call is too long"),
+        }
+    }
+}
+
+impl Error for Unread {}
+
+// Why an input was not decoded.
 #[derive(Clone, Copy, PartialEq, Eq, Debug)]
-pub enum Extent {
-    // over so many bytes, all of them there
-    Has(usize),
-    // past the end of the input, by so many bytes at least
-    Lacks(usize),
-    Unknown,
-    TooLong,
+pub enum DecodeError {
+    Unread(Unread),
+    // no memory was left for the columns or pairs
+    Memory(AllocError),
+}
+
+impl fmt::Display for DecodeError {
+    ghost output = { λ e. Some (failure e) };
+
+    fn fmt<W: fmt::Write>(&self, f: &mut fmt::Formatter<W>) -> fmt::Result {
+        match self {
+            DecodeError::Unread(unread) => write!(f, "{unread}"),
+            DecodeError::Memory(_) => write!(f, "out of memory"),
+        }
+    }
+}
+
+impl Error for DecodeError {}
+
+impl From<Unread> for DecodeError {
+    ghost from_gives = { λ unread e. e ≡ NoCall unread };
+
+    fn from(unread: Unread) -> DecodeError {
+        DecodeError::Unread(unread)
+    }
+}
+
+impl From<AllocError> for DecodeError {
+    ghost from_gives = { λ error e. e ≡ Memory error };
+
+    fn from(error: AllocError) -> DecodeError {
+        DecodeError::Memory(error)
+    }
 }

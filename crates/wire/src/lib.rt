@@ -4,4 +4,5 @@
 pub mod answer;
 pub mod call;
 pub mod decode;
+mod kind;
 pub mod serve;

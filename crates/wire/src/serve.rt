@@ -3,7 +3,7 @@ ghost use Rattle.std.specs.Prelude.{◌≤◌, take, IfOk};
 ghost use Rattle.wire.specs.Calls.{OneCall};
 
 use super::answer::{Answer, line};
-use super::call::{Call, Decoded, Extent};
+use super::call::{Call, DecodeError, Unread};
 use super::decode::{MOST_BYTES, decode, extent};
 use std::alloc::Global;
 use std::io;
@@ -22,10 +22,7 @@ pub fn read_call<R: Read>(input: &mut R, held: &mut [u8; MOST_BYTES]) -> io::Res
     ensures { IfOk result (λ n. (n ≤ 65536) × OneCall (take n held.new)) }
 {
     let mut filled = 0;
-    loop {
-        let Extent::Lacks(lacks) = extent(&held[0..filled]) else {
-            return Ok(filled);
-        };
+    while let Err(Unread::CutOff { lacks }) = extent(&held[..filled]) {
         let got = input.read(&mut held[filled..filled + lacks])?;
         if got == 0 {
             break;
@@ -45,14 +42,16 @@ pub fn serve<R: Read, W: Write, S: Service>(
     text: &mut [u8],
 ) -> io::Result<()> {
     let mut held = [0u8; MOST_BYTES];
+    // no bound on what a reader gives is known: a `loop` would be no plainer, since it needs a measure
     for _ in 0..u64::MAX {
         let filled = read_call(input, &mut held)?;
         if filled == 0 {
             return Ok(());
         }
-        let answer = match decode(heap, &held[0..filled])? {
-            Decoded::Whole { call, rest: _ } => service.answer(&call, text),
-            _ => Answer::Halt,
+        let answer = match decode(heap, &held[..filled]) {
+            Ok((call, _)) => service.answer(&call, text),
+            Err(DecodeError::Unread(_)) => Answer::Halt,
+            Err(DecodeError::Memory(error)) => return Err(error.into()),
         };
         let written = line(heap, answer, text)?;
         output.write_all(written.as_slice())?;

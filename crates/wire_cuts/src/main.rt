@@ -2,10 +2,10 @@
 #![tactic(auto)]
 
 use std::alloc::{AllocError, Global};
-use std::io;
 use std::io::Read;
+use std::{fmt, io};
 use wire::answer::Answer;
-use wire::call::Call;
+use wire::call::{Call, Unread};
 use wire::decode::extent;
 use wire::serve::{Service, serve};
 
@@ -33,7 +33,7 @@ impl Service for Speller {
             return Answer::Halt;
         };
         let n = spelled.len().min(text.len());
-        text[0..n].copy_from_slice(&spelled.as_bytes()[0..n]);
+        text[..n].copy_from_slice(&spelled.as_bytes()[..n]);
         Answer::Row(n)
     }
 }
@@ -47,7 +47,7 @@ struct Slow<'a> {
 impl Read for Slow<'_> {
     fn read(&mut self, buf: &mut [u8]) -> io::Result<usize> {
         let n = buf.len().min(1);
-        self.rest.read(&mut buf[0..n])
+        self.rest.read(&mut buf[..n])
     }
 }
 
@@ -72,6 +72,21 @@ fn show_cut(rt: &HostRuntime, cut: &[u8]) -> io::Result<()> {
     rt.stdout().write_all(lines.as_slice())
 }
 
+// How far a call reaches, as a word and a number.
+#[derive(Drop)]
+struct Reach(Result<usize, Unread>);
+
+impl fmt::Display for Reach {
+    fn fmt<W: fmt::Write>(&self, f: &mut fmt::Formatter<W>) -> fmt::Result {
+        match self.0 {
+            Ok(size) => write!(f, "Has({size})"),
+            Err(Unread::CutOff { lacks }) => write!(f, "Lacks({lacks})"),
+            Err(Unread::Unknown) => write!(f, "Unknown"),
+            Err(Unread::TooLong) => write!(f, "TooLong"),
+        }
+    }
+}
+
 // How far calls reach whose heads tell sizes up to the limit of 65,536 bytes and past it.
 fn show_limits(rt: &HostRuntime) -> io::Result<()> {
     let heads: [&[u8]; 7] = [
@@ -84,8 +99,8 @@ fn show_limits(rt: &HostRuntime) -> io::Result<()> {
         b"f",
     ];
     for head in heads {
-        let reach = extent(head);
-        println!(rt; "{head:?} {reach:?}")?;
+        let reach = Reach(extent(head));
+        println!(rt; "{head:?} {reach}")?;
     }
     Ok(())
 }
@@ -93,10 +108,9 @@ fn show_limits(rt: &HostRuntime) -> io::Result<()> {
 fn main(rt: HostRuntime) -> anyhow::Result<()> {
     let mut stream = Vec::new(rt.alloc());
     rt.stdin().read_to_end(&mut stream)?;
-    for n in 0..stream.len() {
-        show_cut(&rt, &stream.as_slice()[0..n])?;
+    for n in 0..=stream.len() {
+        show_cut(&rt, &stream[..n])?;
     }
-    show_cut(&rt, stream.as_slice())?;
     show_limits(&rt)?;
     Ok(())
 }

@@ -39,7 +39,7 @@ returns-in-Some c =
       answers = λ ends s S.
           denied_room parcel bytes buffers (take n X) O c.args.lengths c.args.marks ends s S
           (ap (λ (m : ℕ). first_denial (checks_of parcel (length buffers) (buffers_in bytes buffers) 0 (take m X))) (sym (sub-zero n)) ∙ c.in_ok-first_denied.ensures)
-          c.needs-needed.result (needed_is parcel bytes buffers (take n X) O c.needs-needed.result c.in_ok-nodes.ensures.inside.1 e) c.in-Some.pool c.in-Some.ensures;
+          c.needs-needed.result (needed_is parcel bytes buffers (take n X) O c.needs-needed.result c.in_ok-nodes.ensures.inside.1 e) c.in-Some.pool (sym c.in-Some.ensures);
       drafted = tt;
     }
 
@@ -57,6 +57,6 @@ returns c =
       answers = λ ends s S.
           accepted parcel bytes buffers (take n X) O c.args.lengths c.args.marks ends s S
           (ap (λ (m : ℕ). first_denial (checks_of parcel (length buffers) (buffers_in bytes buffers) 0 (take m X))) (sym (sub-zero n)) ∙ c.in_ok-first_denied.ensures)
-          c.needs-needed.result q c.in_default.ensures;
+          c.needs-needed.result q (sym c.in_default.ensures);
       drafted = (c.in_ok-nodes.ensures.inside.0, record { outlined = O; drafted = c.in_ok-nodes.ensures.inside.1; needed = q });
     }

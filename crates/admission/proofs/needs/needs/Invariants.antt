@@ -1,10 +1,10 @@
 use Rattle.std.proofs.Common.{◌≡◌, ◌+◌, ◌*◌, ◌≤◌, drop}
 use Rattle.std.specs.List.{AllByRecursion}
 use Rattle.columns.specs.Pools.{plus, one_column}
-use Rattle.admission.specs.Needs.{listed, drafts_need}
+use Rattle.admission.specs.Needs.{needed, drafts_need}
 use Rattle.admission.proofs.needs.needs.Given as goal
 
 abbrev pub invariant-loop-draft : goal.invariant-loop-draft
 invariant-loop-draft l =
-    (plus (listed l.total) (drafts_need l.parcel (drop l.draft-index l.drafts)) ≡ plus one_column (drafts_need l.parcel l.drafts))
-    × AllByRecursion (λ v. v ≤ l.draft-index * 281474976710656 + 1) (listed l.total)
+    (plus (needed l.total) (drafts_need l.parcel (drop l.draft-index l.drafts)) ≡ plus one_column (drafts_need l.parcel l.drafts))
+    × AllByRecursion (λ v. v ≤ l.draft-index * 281474976710656 + 1) (needed l.total)

@@ -1,24 +1,43 @@
-use Rattle.std.proofs.Common.{◌≡◌, ℕ, ◌-◌, ◌/◌, ◌^◌, min, List, [], ◌∷◌, ◌++◌, sym, ap, ◌∙◌, rules}
-use Rattle.std.specs.List.{flat_map}
-use Rattle.columns.specs.Text.{hex_byte}
-use Rattle.columns.specs.Bytes.{le_bytes}
+use Rattle.std.proofs.Common.{◌≡◌, min, true, [], ◌∷◌, ◌++◌, ap, ◌∙◌, rules}
 use Rattle.reading.specs.Inked.{wrote}
-use Rattle.reading.specs.Raw.{inline}
-use Rattle.reading.proofs.Pens.{step, last, piece}
-use Rattle.reading.proofs.Views.{short_bytes, joined_both}
+use Rattle.reading.proofs.Inking.{step, last, piece, refused_byte, refused}
+use Rattle.reading.proofs.Views.{low_part, high_part, short_text}
 use Rattle.reading.proofs.leaves.short.Goals as goal
 
+pub returns-in_err-put : goal.returns-in_err-put
+returns-in_err-put g c =
+    let room = g.I.Ink.room in let marked = g.I.Ink.marked in
+    let m : min c.args.len 4 ≡ c.min-front.result = search rules in
+    let x = low_part c.min-front.result c.args.view in let y = high_part c.args.len c.min-front.result c.args.view in
+    refused_byte room marked (c.args.ink.now, true) c.put.new.self 34 (x ++ (y ++ 34 ∷ [])) c.from_residual.result c.from_residual.ensures.0 c.in_err-put.ensures
+    ∙ ap (wrote room marked (c.args.ink.now, true)) (short_text c.args.len c.min-front.result c.args.view c.requires m)
+
+pub returns-in_err-low_bytes : goal.returns-in_err-low_bytes
+returns-in_err-low_bytes g c =
+    let room = g.I.Ink.room in let marked = g.I.Ink.marked in
+    let m : min c.args.len 4 ≡ c.min-front.result = search rules in
+    let x = low_part c.min-front.result c.args.view in let y = high_part c.args.len c.min-front.result c.args.view in
+    refused room marked (c.put.new.self, true) c.low_bytes.new.self x (y ++ 34 ∷ []) c.from_residual-in_err-low_bytes.result c.from_residual-in_err-low_bytes.ensures.0 c.in_err-low_bytes.ensures
+    ∙ step room marked (c.args.ink.now, true) (c.put.new.self, true) 34 (x ++ (y ++ 34 ∷ [])) c.in_ok-put.ensures
+    ∙ ap (wrote room marked (c.args.ink.now, true)) (short_text c.args.len c.min-front.result c.args.view c.requires m)
+
+pub returns-in_err-low_bytes-2 : goal.returns-in_err-low_bytes-2
+returns-in_err-low_bytes-2 g c =
+    let room = g.I.Ink.room in let marked = g.I.Ink.marked in
+    let m : min c.args.len 4 ≡ c.min-front.result = search rules in
+    let x = low_part c.min-front.result c.args.view in let y = high_part c.args.len c.min-front.result c.args.view in
+    refused room marked (c.low_bytes.new.self, true) c.low_bytes-2.new.self y (34 ∷ []) c.from_residual-in_err-low_bytes-2.result c.from_residual-in_err-low_bytes-2.ensures.0 c.in_err-low_bytes-2.ensures
+    ∙ piece room marked (c.put.new.self, true) (c.low_bytes.new.self, true) x (y ++ 34 ∷ []) c.in_ok-low_bytes.ensures
+    ∙ step room marked (c.args.ink.now, true) (c.put.new.self, true) 34 (x ++ (y ++ 34 ∷ [])) c.in_ok-put.ensures
+    ∙ ap (wrote room marked (c.args.ink.now, true)) (short_text c.args.len c.min-front.result c.args.view c.requires m)
+
 pub returns : goal.returns
-unfolding inline
-returns c =
-    let n = c.args.len in let a = c.args.view.low / 2 ^ 32 in let b = c.args.view.high in
-    let f = c.min-front.result in
-    let x : List ℕ = flat_map hex_byte (le_bytes f a) in let y : List ℕ = flat_map hex_byte (le_bytes (n - f) b) in
-    let m : min n 4 ≡ f = search rules in
-    last c.low_bytes-2.new.self c.put-2.new.self 34 c.put-2.ensures
-    ∙ piece c.low_bytes.new.self c.low_bytes-2.new.self y (34 ∷ []) c.low_bytes-2.ensures
-    ∙ piece c.put.new.self c.low_bytes.new.self x (y ++ 34 ∷ []) (c.low_bytes.ensures ∙ ap (λ v. wrote c.put.new.self (flat_map hex_byte (le_bytes f v))) c.prefix.ensures)
-    ∙ step c.args.pen.now c.put.new.self 34 (x ++ (y ++ 34 ∷ [])) c.put.ensures
-    ∙ ap (λ (t : List ℕ). wrote c.args.pen.now (34 ∷ t))
-    (joined_both hex_byte (le_bytes f a) (le_bytes (n - f) b) (34 ∷ [])
-    ∙ ap (λ (t : List ℕ). flat_map hex_byte t ++ 34 ∷ []) (ap (λ k. le_bytes k a ++ le_bytes (n - k) b) (sym m) ∙ sym (short_bytes n a b c.requires)))
+returns g c =
+    let room = g.I.Ink.room in let marked = g.I.Ink.marked in
+    let m : min c.args.len 4 ≡ c.min-front.result = search rules in
+    let x = low_part c.min-front.result c.args.view in let y = high_part c.args.len c.min-front.result c.args.view in
+    last room marked (c.low_bytes-2.new.self, true) _ 34 c.put-2.ensures
+    ∙ piece room marked (c.low_bytes.new.self, true) (c.low_bytes-2.new.self, true) y (34 ∷ []) c.in_ok-low_bytes-2.ensures
+    ∙ piece room marked (c.put.new.self, true) (c.low_bytes.new.self, true) x (y ++ 34 ∷ []) c.in_ok-low_bytes.ensures
+    ∙ step room marked (c.args.ink.now, true) (c.put.new.self, true) 34 (x ++ (y ++ 34 ∷ [])) c.in_ok-put.ensures
+    ∙ ap (wrote room marked (c.args.ink.now, true)) (short_text c.args.len c.min-front.result c.args.view c.requires m)

@@ -1,36 +1,36 @@
-use Rattle.std.proofs.Common.{◌≡◌, ℕ, ◌<◌, List, ap, ◌∙◌, arith}
+use Rattle.std.proofs.Common.{ℕ, List, sym, ap, ◌∙◌}
 use Rattle.columns.specs.Says.{entry}
+use Rattle.formats.specs.declared.format.Width.{Width}
 use Rattle.pools.specs.Parts.{part_of}
 use Rattle.pools.specs.Store.{store}
 use Rattle.pools.specs.Held.{values_pool}
-use Rattle.rows.proofs.Entries.{part_low, part_high, part_within}
+use Rattle.rows.proofs.Entries.{entry_of_numbers}
 use Rattle.rows.proofs.runs.entry_of.Goals as goal
 
-pub loop-low-init : goal.loop-low-init
-loop-low-init c = (omega arith, omega arith, part_within (values_pool (store c.args.pools.now) c.args.width) c.args.ends c.args.row c.requires.inside)
+pub returns-in-One : goal.returns-in-One
+returns-in-One c =
+    let P = store c.args.pools.now in
+    let part = c.part.ensures ∙ ap (λ (w : Width). part_of (values_pool P w) c.args.ends) (sym c.in-One.is) in
+    let is = entry_of_numbers _ _ c.run_of.result c.args.row part c.requires.rising (c.run_of.ensures (λ n. n) (λ x n e. e)) in
+    record { is = is; told = λ es lie. is ∙ ap (λ (xs : List ℕ). entry xs c.args.row) lie.is }
 
-pub loop-low-preserved-then-row-number_at : goal.loop-low-preserved-then-row-number_at
-loop-low-preserved-then-row-number_at c =
-    let inv = c.loop-low.invariant in let mid = c.halfway-middle.ensures in (
-      omega arith,
-      inv.1,
-      part_high (values_pool (store c.args.pools.now) c.args.width) c.args.ends c.halfway-middle.result c.args.row c.number_at.result
-          c.requires.inside (omega arith) c.number_at.ensures (omega arith),
-    )
+pub returns-in-Two : goal.returns-in-Two
+returns-in-Two c =
+    let P = store c.args.pools.now in
+    let part = c.part-in-Two.ensures ∙ ap (λ (w : Width). part_of (values_pool P w) c.args.ends) (sym c.in-Two.is) in
+    let is = entry_of_numbers _ _ c.run_of-in-Two.result c.args.row part c.requires.rising (c.run_of-in-Two.ensures (λ n. n) (λ x n e. e)) in
+    record { is = is; told = λ es lie. is ∙ ap (λ (xs : List ℕ). entry xs c.args.row) lie.is }
 
-pub loop-low-preserved : goal.loop-low-preserved
-loop-low-preserved c =
-    let inv = c.loop-low.invariant in let mid = c.halfway-middle.ensures in (
-      inv.0,
-      (let above : c.halfway-middle.result < entry (part_of (values_pool (store c.args.pools.now) c.args.width) c.args.ends) c.args.row =
-          part_low (values_pool (store c.args.pools.now) c.args.width) c.args.ends c.halfway-middle.result c.args.row c.number_at.result
-          c.requires.inside c.requires.rising (omega arith) c.number_at.ensures (omega arith) in
-          omega arith),
-      inv.2,
-    )
+pub returns-in-Four : goal.returns-in-Four
+returns-in-Four c =
+    let P = store c.args.pools.now in
+    let part = c.part-in-Four.ensures ∙ ap (λ (w : Width). part_of (values_pool P w) c.args.ends) (sym c.in-Four.is) in
+    let is = entry_of_numbers _ _ c.run_of-in-Four.result c.args.row part c.requires.rising (c.run_of-in-Four.ensures (λ n. n) (λ x n e. e)) in
+    record { is = is; told = λ es lie. is ∙ ap (λ (xs : List ℕ). entry xs c.args.row) lie.is }
 
-pub returns : goal.returns
-returns c =
-    let es = part_of (values_pool (store c.args.pools.now) c.args.width) c.args.ends in
-    let is : c.loop-low.low ≡ entry es c.args.row = (let inv = c.loop-low.invariant in omega arith) in
-    record { is = is; told = λ fs lie. is ∙ ap (λ (xs : List ℕ). entry xs c.args.row) lie.is }
+pub returns-in-Eight : goal.returns-in-Eight
+returns-in-Eight c =
+    let P = store c.args.pools.now in
+    let part = c.part-in-Eight.ensures ∙ ap (λ (w : Width). part_of (values_pool P w) c.args.ends) (sym c.in-Eight.is) in
+    let is = entry_of_numbers _ _ c.run_of-in-Eight.result c.args.row part c.requires.rising (c.run_of-in-Eight.ensures (λ n. n) (λ x n e. e)) in
+    record { is = is; told = λ es lie. is ∙ ap (λ (xs : List ℕ). entry xs c.args.row) lie.is }

@@ -7,12 +7,7 @@ use Rattle.pools.specs.Held.{Held}
 use Rattle.pools.proofs.Reading.{stored_node}
 use Rattle.rows.proofs.tree.node_at.Goals as goal
 
-pub returns : goal.returns
-returns c =
-    let is = c.entry.ensures in
-    record {
-      is = is;
-      told = λ P d same h.
-          subst (λ (e : Node). Held P e (node d) (width (children d)) (node_count d))
-          (ap (λ (es : List Node). get_or es c.args.place no_node) same ∙ sym is) (stored_node P c.args.place d h).1;
-    }
+pub returns-clause-told : goal.returns-clause-told
+returns-clause-told c = λ P d same h.
+    subst (λ (e : Node). Held P e (node d) (width (children d)) (node_count d))
+    (ap (λ (es : List Node). get_or es c.args.place no_node) same ∙ sym (c.get.ensures no_node)) (stored_node P c.args.place d h).1

@@ -1,11 +1,7 @@
-use Rattle.std.proofs.Common.{◌/◌, ◌%◌, ◌^◌, eqb, ap, ◌∙◌, length-take, rules}
+use Rattle.std.proofs.Common.{◌/◌, ◌%◌, ◌^◌, eqb, ap, ◌∙◌}
 use Rattle.pools.proofs.Reading.{bit_read}
 use Rattle.rows.proofs.values.bit_at.Goals as goal
 
-pub overflow_add-place : goal.overflow_add-place
-overflow_add-place c = let l = length-take c.args.bytes.now.mark c.args.bytes.now.lent.now in search rules
-
-pub returns : goal.returns
-returns c =
-    let is = c.bit.ensures ∙ ap (λ b. eqb (b / 2 ^ (c.args.row % 8) % 2) 1) (c.get.ensures 0) in
-    record { is = is; told = λ rows bits spare lie h. is ∙ bit_read lie c.args.row h }
+pub returns-clause-told : goal.returns-clause-told
+returns-clause-told c = λ rows bits spare lie h.
+    c.bit.ensures ∙ ap (λ b. eqb (b / 2 ^ (c.args.row % 8) % 2) 1) (c.get.ensures 0) ∙ bit_read lie c.args.row h

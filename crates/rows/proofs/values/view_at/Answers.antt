@@ -9,14 +9,9 @@ use Rattle.pools.proofs.Fronts.{segment_at}
 use Rattle.rows.proofs.Viewing.{parts_seen}
 use Rattle.rows.proofs.values.view_at.Goals as goal
 
-pub returns : goal.returns
-returns c =
-    let is = c.take_apart.ensures ∙ ap parts_of (c.from_place.ensures no_halves) in
-    record {
-      is = is;
-      told = λ rows vs lie h.
-          is ∙ sym (parts_seen _)
-          ∙ ap view_parts
-          (sym (get_or-map view_from (used c.args.views.now) (c.args.place + c.args.row) no_halves (short 0 []) c.requires)
-          ∙ segment_at lie c.args.row (short 0 []) h);
-    }
+pub returns-clause-told : goal.returns-clause-told
+returns-clause-told c = λ rows vs lie h.
+    c.from.ensures ∙ ap parts_of (c.value_at.ensures.is no_halves) ∙ sym (parts_seen _)
+    ∙ ap view_parts
+    (sym (get_or-map view_from (used c.args.views.now) (c.args.place + c.args.row) no_halves (short 0 []) c.requires)
+    ∙ segment_at lie c.args.row (short 0 []) h)

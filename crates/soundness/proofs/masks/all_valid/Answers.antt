@@ -1,12 +1,12 @@
-use Rattle.std.proofs.Common.{refl}
-use Rattle.soundness.proofs.Falls.{null_more, null_found, null_none}
+use Rattle.std.proofs.Common.{rules, refl, ◌∙◌, arith}
+use Rattle.std.proofs.lemmas.Iterator.{YieldsList-from_range}
+use Rattle.std.proofs.lemmas.Iterator.Search.{all_from_yields_List}
+use Rattle.columns.specs.Contents.{bit_at}
+use Rattle.soundness.proofs.Falls.{all_set}
 use Rattle.soundness.proofs.masks.all_valid.Goals as goal
 
-pub returns-then-not-bit : goal.returns-then-not-bit
-returns-then-not-bit c = null_found c.args.rows c.args.mask.now c.loop-i.i _ c.loop-i-test.true c.if-not-bit.ensures c.loop-i.invariant refl
-
-pub loop-i-preserved : goal.loop-i-preserved
-loop-i-preserved c = null_more c.args.rows c.args.mask.now c.loop-i.i _ c.loop-i-test.true c.if-not-bit.ensures c.loop-i.invariant refl
-
 pub returns : goal.returns
-returns c = null_none c.args.rows c.args.mask.now c.loop-i.i c.loop-i-test.false c.loop-i.invariant
+returns c =
+    let bit = bit_at c.args.mask.now in
+    all_from_yields_List bit _ _ c.all.result c.all.ensures.ran (YieldsList-from_range 0 c.args.rows c.args.rows refl (omega arith)) (λ x b q k. search rules)
+    ∙ all_set bit 0 c.args.rows

@@ -1,4 +1,4 @@
-use Rattle.std.proofs.Common.{ℕ, Bool, true, false, ◌&&◌, List, ◌++◌, ap, ◌∙◌}
+use Rattle.std.proofs.Common.{ℕ, Bool, true, ◌&&◌, List, ◌++◌, ap, ◌∙◌}
 use Rattle.columns.specs.Sent.{Data}
 use Rattle.columns.specs.SoundTests.{fills, role_sound}
 use Rattle.pools.specs.Parts.{buffers_in}
@@ -10,9 +10,9 @@ use Rattle.soundness.proofs.sound.sound.Goals as goal
 
 pub returns-then-role_sound : goal.returns-then-role_sound
 returns-then-role_sound c = λ more u.
-    let parcel = c.args.parcel.now in
-    let d = c.args.d in
-    let bs : List (List ℕ) = buffers_in c.args.bytes.now c.args.buffers.now ++ more in
+    let parcel = c.args.node.parcel.now in
+    let d = c.args.node.draft in
+    let bs : List (List ℕ) = buffers_in c.args.shelved.bytes.now c.args.shelved.buffers.now ++ more in
     let ds : List Data = data_of parcel bs d in
     let F : Bool = fills (kind_in parcel d) (head_in parcel d) (sent_of parcel d.parts ds) in
     let K : Bool = kind_sound_in parcel bs d in
@@ -20,23 +20,11 @@ returns-then-role_sound c = λ more u.
     ∙ ap (λ (b : Bool). b && true && K) (c.if-not-filled.ensures.is ds)
     ∙ ap (λ (b : Bool). F && b && K) (c.if-role_sound.ensures ds)
 
-pub returns-else-role_sound : goal.returns-else-role_sound
-returns-else-role_sound c = λ more u.
-    let parcel = c.args.parcel.now in
-    let d = c.args.d in
-    let bs : List (List ℕ) = buffers_in c.args.bytes.now c.args.buffers.now ++ more in
-    let ds : List Data = data_of parcel bs d in
-    let F : Bool = fills (kind_in parcel d) (head_in parcel d) (sent_of parcel d.parts ds) in
-    let K : Bool = kind_sound_in parcel bs d in
-    c.if-role_sound.false
-    ∙ ap (λ (b : Bool). b && false && K) (c.if-not-filled.ensures.is ds)
-    ∙ ap (λ (b : Bool). F && b && K) (c.if-role_sound.ensures ds)
-
 pub returns-then-not-filled : goal.returns-then-not-filled
 returns-then-not-filled c = λ more u.
-    let parcel = c.args.parcel.now in
-    let d = c.args.d in
-    let bs : List (List ℕ) = buffers_in c.args.bytes.now c.args.buffers.now ++ more in
+    let parcel = c.args.node.parcel.now in
+    let d = c.args.node.draft in
+    let bs : List (List ℕ) = buffers_in c.args.shelved.bytes.now c.args.shelved.buffers.now ++ more in
     let ds : List Data = data_of parcel bs d in
     let R : Bool = role_sound (role_of d.role) (node_in parcel d ds) in
     let K : Bool = kind_sound_in parcel bs d in
