@@ -1,5 +1,5 @@
 -- What is added to a pool has room in it.
-use Rattle.std.proofs.Common.{◌≡◌, ℕ, ◌+◌, ◌*◌, ◌≤◌, true, List, ◌++◌, map, length, drop, Some, None, Option, sym, refl, ap, ◌∙◌, subst, ap₂, arith, rules, length-append}
+use Rattle.std.proofs.Common.{◌≡◌, ℕ, ◌+◌, ◌*◌, ◌≤◌, true, List, ◌++◌, map, length, drop, Some, None, Option, sym, refl, ◌∙◌, subst, ap₂, arith, rules, length-append}
 use lib.ListN.{length-map}
 use Rattle.formats.specs.declared.format.Width.TheVariants.{One, Two, Four, Eight}
 use Rattle.formats.specs.declared.kind.Kind.{Kind}
@@ -19,7 +19,6 @@ use Rattle.parcels.specs.declared.draft.Parts.{Parts}
 use Rattle.parcels.specs.Reads.{within, Within, MaskWithin, Inside}
 use Rattle.parcels.specs.Lent.{readable, data_from, brought_from}
 use Rattle.parcels.specs.Drafts.{Drafted}
-use Rattle.filing.specs.Lent.{flat}
 use Rattle.filing.specs.Bodies.{BodyRoom}
 use Rattle.filing.specs.Masks.{mask_len, mask_sent}
 use Rattle.filing.specs.Plans.{Plan, plan_of, body_bytes, place_in}
@@ -63,9 +62,23 @@ none_brought parcel at n = omega arith
 eq_le : {a b : ℕ} → a ≡ b → a ≤ b
 eq_le {a} {b} e = omega arith
 
--- the parts of a plan lie within what the parcel has, and its views within a body of so many bytes
+-- the part that is taken byte by byte lies in the parcel
+pub plain_within : (parcel : List ℕ) (k : Kind) (x : Parts) (n : ℕ) → Inside parcel x → Within parcel (plan_of k x n).plain
+plain_within parcel (Primitive One) x n i = search rules
+plain_within parcel (Primitive Two) x n i = search rules
+plain_within parcel (Primitive Four) x n i = search rules
+plain_within parcel (Primitive Eight) x n i = search rules
+plain_within parcel Boolean x n i = search rules
+plain_within parcel (Text wide) x n i = search rules
+plain_within parcel View x n i = search rules
+plain_within parcel (ListOf wide) x n i = search rules
+plain_within parcel Map x n i = search rules
+plain_within parcel Struct x n i = search rules
+plain_within parcel RunEnds x n i = search rules
+plain_within parcel (FixedList size) x n i = search rules
+
+-- the data buffers of a plan lie in the parcel, and its views within a body of so many bytes
 pub record PlanFits (parcel : List ℕ) (x : Parts) (size : ℕ) (p : Plan) : Type 0 where
-  pub plain : Within parcel p.plain
   pub views : 16 * p.views ≤ size
   pub list : readable parcel p.list.start p.list.len ≡ true
   pub new : length (brought_from parcel p.list.start p.list.len) ≤ length (brought_from parcel x.lent.start x.lent.len)
@@ -90,12 +103,12 @@ plan_within parcel d h b =
     (plan_fits parcel d.kind d.parts d.head.rows h.parts h.lent b)
 
 -- what is taken of a draft byte by byte
-pub own_length : (parcel : List ℕ) (d : Draft) → Drafted parcel d → Within parcel (plan_in d).plain → length (own_bytes parcel d) ≡ d.head.format.len + (mask_len d.parts.mask + (plan_in d).plain.len)
-own_length parcel d h p =
+pub own_length : (parcel : List ℕ) (d : Draft) → Drafted parcel d → length (own_bytes parcel d) ≡ d.head.format.len + (mask_len d.parts.mask + (plan_in d).plain.len)
+own_length parcel d h =
     length-append (within parcel d.head.format) (mask_sent parcel d.parts.mask ++ within parcel (plan_in d).plain)
     ∙ ap₂ (λ (a b : ℕ). a + b) (part_length parcel d.head.format h.head)
     (length-append (mask_sent parcel d.parts.mask) (within parcel (plan_in d).plain)
-    ∙ ap₂ (λ (a b : ℕ). a + b) (mask_length parcel d.parts.mask h.parts.mask) (part_length parcel (plan_in d).plain p))
+    ∙ ap₂ (λ (a b : ℕ). a + b) (mask_length parcel d.parts.mask h.parts.mask) (part_length parcel (plan_in d).plain (plain_within parcel d.kind d.parts d.head.rows h.parts)))
 
 fit_count : {X : Type 0} {p : Pool X} (m n : ℕ) → m ≡ n → Fit p m → Fit p n
 fit_count {X} {p} m n e f = subst (Fit p) e f
@@ -115,11 +128,6 @@ module _ (p : Pools) (parcel : List ℕ) (d : Draft) (span : ℕ) (m : Marks) (r
 
   pub lists_room : Fit p.lists (plan_in d).list.len
   lists_room = fit_count _ _ (data_length parcel (plan_in d).list.start m.buffers (plan_in d).list.len) r.lists
-
-  -- the byte pool: a draft's own bytes, and then its new data buffers
-  pub bytes_room : Drafted parcel d → Within parcel (plan_in d).plain → Fit p.bytes (d.head.format.len + (mask_len d.parts.mask + (plan_in d).plain.len) + length (flat (brought_by parcel d)))
-  bytes_room h w =
-      fit_count _ _ (length-append (own_bytes parcel d) (flat (brought_by parcel d)) ∙ ap (λ (n : ℕ). n + length (flat (brought_by parcel d))) (own_length parcel d h w)) r.bytes
 
   pub brought_room : Fit p.buffers (length (brought_by parcel d))
   brought_room = fit_count _ _ (parts_length (brought_start d m) (brought_by parcel d)) r.buffers

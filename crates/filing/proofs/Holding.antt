@@ -45,7 +45,7 @@ use Rattle.filing.specs.Masks.{mask_len, mask_sent, mask_at}
 use Rattle.filing.specs.Plans.{Plan, plan_of, place_in, body_bytes}
 use Rattle.filing.specs.News.{Gained, Filled, MaskFilled, node_news, plan_in, brought_by, plain_start, entry_of}
 use Rattle.filing.proofs.Numbers.{views_told}
-use Rattle.filing.proofs.Fitting.{part_length, mask_length, count_length, entries_length, data_length, plan_within}
+use Rattle.filing.proofs.Fitting.{part_length, mask_length, count_length, entries_length, data_length, plain_within, plan_within}
 
 -- a part of what was added
 pub segment_mid : {X : Type 0} {m m1 : ℕ} {xs xs1 : List X} (a b c : List X) → m ≤ length xs → Grown m xs (a ++ (b ++ c)) m1 xs1 → Segment (take m1 xs1) (m + length a) (length b) b
@@ -160,7 +160,7 @@ node_held p q parcel d span ready small h f g =
     let Z : List ℕ = flat (brought_by parcel d) in
     let fl : length F ≡ d.head.format.len = part_length parcel d.head.format h.head in
     let ml : length M ≡ mask_len d.parts.mask = mask_length parcel d.parts.mask h.parts.mask in
-    let ll : length L ≡ (plan_in d).plain.len = part_length parcel (plan_in d).plain fits.plain in
+    let ll : length L ≡ (plan_in d).plain.len = part_length parcel (plan_in d).plain (plain_within parcel d.kind d.parts d.head.rows h.parts) in
     let all : (F ++ (M ++ L)) ++ Z ≡ F ++ (M ++ (L ++ Z)) = append_assoc F (M ++ L) Z ∙ ap (λ (l : List ℕ). F ++ l) (append_assoc M L Z) in
     let bytes : Gains p.bytes (F ++ (M ++ (L ++ Z))) q.bytes = subst (λ (new : List ℕ). Gains p.bytes new q.bytes) all g.bytes in
     let bytes_two : Gains p.bytes ((F ++ M) ++ (L ++ Z)) q.bytes = subst (λ (new : List ℕ). Gains p.bytes new q.bytes) (sym (append_assoc F M (L ++ Z))) bytes in

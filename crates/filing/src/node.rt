@@ -3,7 +3,7 @@ ghost use Rattle.pools.specs.Marked.{marks_of};
 ghost use Rattle.parcels.specs.Drafts.{Drafted};
 ghost use Rattle.filing.specs.News.{Room, Gained, Filled, node_news};
 
-use crate::body::{listed_part, plain_part, put_body};
+use crate::body::{listed_part, put_body};
 use crate::copy::copy_parts;
 use crate::lent::{put_brought, put_numbers};
 use parcels::draft::Draft;
@@ -17,25 +17,22 @@ pub(crate) fn put_node(pools: &mut Pools<'_>, parcel: &[u8], draft: Draft, span:
     requires filled { Filled draft }
     ensures { Gained pools.old (node_news parcel.now draft span (marks_of pools.old)) pools.new }
 {
-    let head = draft.head;
-    let parts = draft.parts;
-    let copied = copy_parts(
-        &mut pools.bytes,
-        parcel,
-        head.format,
-        parts.mask,
-        plain_part(draft),
-    );
+    let copied = copy_parts(&mut pools.bytes, parcel, draft);
     let place = put_body(pools, parcel, draft, copied.plain.start);
     let listed = listed_part(draft);
     let buffers = put_numbers(&mut pools.lists, parcel, listed, pools.buffers.mark);
-    put_brought(&mut pools.bytes, &mut pools.buffers, parcel, parts.lent);
+    put_brought(
+        &mut pools.bytes,
+        &mut pools.buffers,
+        parcel,
+        draft.parts.lent,
+    );
     pools.nodes.append(Node {
         kind: draft.kind,
         format: copied.format,
-        label: head.label,
-        rows: head.rows,
-        children: head.children,
+        label: draft.head.label,
+        rows: draft.head.rows,
+        children: draft.head.children,
         span,
         mask: copied.mask,
         place,

@@ -1,4 +1,4 @@
-use Rattle.std.proofs.Common.{◌≡◌, ℕ, ◌+◌, ◌≤◌, true, List, [], ◌∷◌, ◌++◌, map, length, sym, ap, ◌∙◌, subst, subst₂, arith}
+use Rattle.std.proofs.Common.{◌≡◌, ℕ, ◌+◌, ◌≤◌, true, List, [], ◌∷◌, ◌++◌, map, length, sym, refl, ap, ◌∙◌, subst, subst₂, arith, length-append}
 use Rattle.columns.specs.Sent.{number_of}
 use Rattle.pools.specs.declared.records.Part.{Part}
 use Rattle.pools.specs.declared.records.Node.{Node as Entry}
@@ -9,41 +9,20 @@ use Rattle.pools.specs.Used.{Fit, Gains}
 use Rattle.pools.specs.Marked.{marks_of}
 use Rattle.pools.proofs.Growing.{grown_none, grown_then}
 use Rattle.parcels.specs.declared.draft.Draft.{Draft}
-use Rattle.parcels.specs.Reads.{within}
 use Rattle.parcels.specs.Lent.{readable, data_from, brought_from}
 use Rattle.filing.specs.Lent.{flat, parts_from}
-use Rattle.filing.specs.Masks.{mask_len, mask_sent}
 use Rattle.filing.specs.Plans.{place_in}
-use Rattle.filing.specs.News.{plan_in, own_bytes, brought_by, plain_start, brought_start}
-use Rattle.filing.proofs.Fitting.{fit_less, fit_next, plan_within, body_room, lists_room, bytes_room, brought_room, own_length, place_same, entry_is}
-use Rattle.filing.proofs.node.put_node.Goals.{After-plain_part, After-copy_parts-copied}
+use Rattle.filing.specs.News.{own_bytes, brought_by, brought_start}
+use Rattle.filing.proofs.Fitting.{fit_less, fit_next, plan_within, body_room, lists_room, brought_room, own_length, place_same, entry_is}
 use Rattle.filing.proofs.node.put_node.Goals as goal
-
--- a draft's own bytes have room before its new data buffers
-own_room : (c : After-plain_part) → Fit c.args.pools.now.bytes (c.args.draft.head.format.len + (mask_len c.args.draft.parts.mask + (plan_in c.args.draft).plain.len) + length (flat (brought_by c.args.parcel.now c.args.draft)))
-own_room c =
-    bytes_room c.args.pools.now c.args.parcel.now c.args.draft c.args.span (marks_of c.args.pools.now) c.requires.room c.requires.drafted
-    (plan_within c.args.parcel.now c.args.draft c.requires.drafted c.requires.filled.body).plain
-
--- they are added
-own_added : (c : After-copy_parts-copied) → Gains c.args.pools.now.bytes (own_bytes c.args.parcel.now c.args.draft) c.copy_parts-copied.new.bytes
-own_added c =
-    subst (λ (t : Part). Gains c.args.pools.now.bytes (within c.args.parcel.now c.args.draft.head.format ++ (mask_sent c.args.parcel.now c.args.draft.parts.mask ++ within c.args.parcel.now t)) c.copy_parts-copied.new.bytes)
-    c.plain_part.ensures c.copy_parts-copied.ensures.added
-
-own_size : (c : After-copy_parts-copied) → length (own_bytes c.args.parcel.now c.args.draft) ≡ c.args.draft.head.format.len + (mask_len c.args.draft.parts.mask + (plan_in c.args.draft).plain.len)
-own_size c = own_length c.args.parcel.now c.args.draft c.requires.drafted (plan_within c.args.parcel.now c.args.draft c.requires.drafted c.requires.filled.body).plain
 
 pub copy_parts-copied-requires : goal.copy_parts-copied-requires
 copy_parts-copied-requires c =
-    let plain = c.plain_part.ensures in
     record {
       room =
-          subst (λ (t : Part). Fit c.args.pools.now.bytes (c.args.draft.head.format.len + (mask_len c.args.draft.parts.mask + t.len))) (sym plain)
-          (fit_less _ (c.args.draft.head.format.len + (mask_len c.args.draft.parts.mask + (plan_in c.args.draft).plain.len)) (omega arith) (own_room c));
-      format = c.requires.drafted.head;
-      mask = c.requires.drafted.parts.mask;
-      plain = subst (λ (t : Part). t.start + t.len ≤ length c.args.parcel.now) (sym plain) (plan_within c.args.parcel.now c.args.draft c.requires.drafted c.requires.filled.body).plain;
+          fit_less (length (own_bytes c.args.parcel.now c.args.draft ++ flat (brought_by c.args.parcel.now c.args.draft))) (length (own_bytes c.args.parcel.now c.args.draft))
+          (omega (arith, length-append (own_bytes c.args.parcel.now c.args.draft) (flat (brought_by c.args.parcel.now c.args.draft)))) c.requires.room.bytes;
+      drafted = c.requires.drafted;
     }
 
 pub put_body-place-requires-clause-room : goal.put_body-place-requires-clause-room
@@ -68,16 +47,16 @@ put_numbers-buffers-requires c =
 
 pub put_brought-requires : goal.put_brought-requires
 put_brought-requires c =
-    let b = (goal.at.put_brought-requires c).After-copy_parts-copied in
+    let own : List ℕ = own_bytes c.args.parcel.now c.args.draft in
+    let new : List ℕ = flat (brought_by c.args.parcel.now c.args.draft) in
     record {
       inside = c.requires.drafted.lent;
       shelved =
           subst (λ (q : Pool Part). Fit q (length (brought_by c.args.parcel.now c.args.draft))) (sym c.put_body-place.ensures.gained.buffers)
           (brought_room c.args.pools.now c.args.parcel.now c.args.draft c.args.span (marks_of c.args.pools.now) c.requires.room);
       held =
-          subst (λ (q : Pool ℕ). Fit q (length (flat (brought_by c.args.parcel.now c.args.draft)))) (sym c.put_body-place.ensures.gained.bytes)
-          (fit_next c.copy_parts-copied.new.bytes (c.args.draft.head.format.len + (mask_len c.args.draft.parts.mask + (plan_in c.args.draft).plain.len)) (length (flat (brought_by c.args.parcel.now c.args.draft)))
-          (own_size b) (own_room (goal.at.put_brought-requires c).After-plain_part) (own_added b));
+          subst (λ (q : Pool ℕ). Fit q (length new)) (sym c.put_body-place.ensures.gained.bytes)
+          (fit_next c.copy_parts-copied.new.bytes (length own) (length new) refl (subst (Fit c.args.pools.now.bytes) (length-append own new) c.requires.room.bytes) c.copy_parts-copied.ensures.added);
     }
 
 pub returns : goal.returns
@@ -86,13 +65,16 @@ returns c =
     let parcel : List ℕ = c.args.parcel.now in
     let d : Draft = c.args.draft in
     let m : Marks = marks_of p in
-    let b = (goal.at.returns c).After-copy_parts-copied in
     let gained = c.put_body-place.ensures.gained in
     let list = c.listed_part-listed.ensures in
-    let text : c.copy_parts-copied.result.plain ≡ (let t : Part = record { start = plain_start d m; len = (plan_in d).plain.len } in t) =
-    c.copy_parts-copied.ensures.plain ∙ ap (λ (x : Part). (let t : Part = record { start = plain_start d m; len = x.len } in t)) c.plain_part.ensures in
+    let text = c.copy_parts-copied.ensures.plain in
     let after : c.put_body-place.new.pools.bytes.mark ≡ brought_start d m =
-    omega (arith, (own_added b).mark, own_size b, ap (λ (q : Pool ℕ). q.mark) gained.bytes) in
+    omega (
+      arith,
+      c.copy_parts-copied.ensures.added.mark,
+      own_length parcel d c.requires.drafted,
+      ap (λ (q : Pool ℕ). q.mark) gained.bytes,
+    ) in
     let brought : Gains c.copy_parts-copied.new.bytes (flat (brought_by parcel d)) c.put_brought.new.bytes =
     subst (λ (q : Pool ℕ). Gains q (flat (brought_by parcel d)) c.put_brought.new.bytes) gained.bytes c.put_brought.ensures.bytes in
     let parts : Gains p.buffers (parts_from c.put_body-place.new.pools.bytes.mark (brought_by parcel d)) c.put_brought.new.buffers =
@@ -106,7 +88,7 @@ returns c =
           (c.put_numbers-buffers.ensures.lies ∙ ap (λ (q : Pool ℕ). (let t : Part = record { start = q.mark; len = c.listed_part-listed.result.len } in t)) gained.lists
           ∙ ap (λ (x : Part). (let t : Part = record { start = p.lists.mark; len = x.len } in t)) list))
           c.append.ensures;
-      bytes = grown_then (own_added b) brought;
+      bytes = grown_then c.copy_parts-copied.ensures.added brought;
       shorts = gained.shorts;
       words = gained.words;
       longs = gained.longs;
