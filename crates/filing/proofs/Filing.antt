@@ -274,10 +274,6 @@ pub record Storing (p q : Pools) (parcel : List ℕ) (ds : List Draft) (sizes : 
   pub long : length rest ≡ length left
   pub then : (r : Pools) → Filed q r parcel rest left → Filed p r parcel ds sizes
 
-pub storing_start : {p : Pools} {parcel : List ℕ} {ds : List Draft} {ss : List ℕ} → Ready p → AllByRecursion (Drafted parcel) ds → AllByRecursion Filled ds → Fits p (takes_all parcel ds) → length ds ≡ length ss
-    → Storing p p parcel ds ss ds ss
-storing_start r a f h e = record { ready = r; drafted = a; filled = f; room = h; long = e; then = λ q filed. filed }
-
 pub storing_next : {p q : Pools} {parcel : List ℕ} {ds : List Draft} {ss : List ℕ} {before rest : List Draft} {from left : List ℕ} (d : Draft) (size : ℕ) → before ≡ d ∷ rest → from ≡ size ∷ left
     → Storing p q parcel ds ss before from → Storing p q parcel ds ss (d ∷ rest) (size ∷ left)
 storing_next {p} {q} {parcel} {ds} {ss} d size e f s = subst₂ (λ (xs : List Draft) (ys : List ℕ). Storing p q parcel ds ss xs ys) e f s

@@ -59,9 +59,6 @@ none_brought : (parcel : List ℕ) (at n : ℕ) → length (brought_from parcel 
 unfolding brought_from
 none_brought parcel at n = omega arith
 
-eq_le : {a b : ℕ} → a ≡ b → a ≤ b
-eq_le {a} {b} e = omega arith
-
 -- the part that is taken byte by byte lies in the parcel
 pub plain_within : (parcel : List ℕ) (k : Kind) (x : Parts) (n : ℕ) → Inside parcel x → Within parcel (plan_of k x n).plain
 plain_within parcel (Primitive One) x n i = search rules
