@@ -244,7 +244,7 @@ put_rows-returns-in_err-comma g t c = λ d r.
     ∙ c.loop-k.invariant d r
 
 pub put_rows-put_row-requires : goal.put_rows-put_row-requires
-put_rows-put_row-requires g t c κs within = (omega arith, (within, ∥∥₁_map c.requires (λ given. (given.0, row_of_rows c.loop-k.k c.loop-k-test.true given.1))))
+put_rows-put_row-requires g t c κs within = (omega arith, (within, ∥∥₁_map c.requires (λ given. (given.0, row_of_rows _ (let l = c.loop-k-test.true in omega arith) given.1))))
 
 pub put_rows-returns-in_err-put_row : goal.put_rows-returns-in_err-put_row
 put_rows-returns-in_err-put_row g t c = λ d r.
