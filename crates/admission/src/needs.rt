@@ -10,12 +10,12 @@ ghost use Rattle.admission.specs.Needs.{needed, mask_need, width_entries, kind_e
 use formats::format::Width;
 use formats::kind::Kind;
 use parcels::draft::Draft;
+use parcels::sent::Sent;
 use pools::entries::Entries;
 use pools::pools::Marks;
 use pools::records::Part;
 use soundness::data_buffers::DataBuffers;
 use soundness::node::SentNode;
-use soundness::sent::Sent;
 use soundness::values::bit_bytes;
 
 // The data buffers that a node brings: how many, and how many bytes they have.

@@ -10,11 +10,11 @@ ghost use Rattle.soundness.specs.Ladder.{beyond_of, unshelved_in, denial_in};
 
 use crate::data_buffers::DataBuffers;
 use crate::node::SentNode;
-use crate::sent::Sent;
 use crate::shelved::Shelved;
 use crate::sound::sound;
 use denials::Denial;
 use parcels::draft::Draft;
+use parcels::sent::Sent;
 
 // The number by which a data buffer is sent, where no such buffer was shelved before.
 fn beyond(sent: Sent, before: usize) -> Option<usize>
