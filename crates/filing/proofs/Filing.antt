@@ -35,7 +35,7 @@ use Rattle.filing.specs.News.{News, Room, Gained, Filled, node_news, plan_in, ow
 use Rattle.filing.specs.Row.{Row}
 use Rattle.filing.specs.Filed.{takes, both, takes_all, nodes_from, brought_all, Fits, Filed}
 use Rattle.filing.proofs.Lents.{parts_length}
-use Rattle.filing.proofs.Fitting.{fit_less, count_length, entries_length, data_length, own_length, plan_within}
+use Rattle.filing.proofs.Fitting.{fit_less, count_length, entries_length, data_length, own_length}
 use Rattle.filing.proofs.Holding.{node_held, segment_mid}
 
 -- equal marks, pool by pool
@@ -175,13 +175,12 @@ filed_then p q r parcel ds es ss ts e a b =
 pub room_one : (p : Pools) (parcel : List ℕ) (d : Draft) (span : ℕ) (m : Marks) → Drafted parcel d → Filled d → Fits p (takes parcel d) → Room p (node_news parcel d span m)
 room_one p parcel d span m h f r =
     let body : List ℕ = within parcel d.parts.body in
-    let fits = plan_within parcel d (plan_in d) refl h f.body body refl in
     record {
       columns = r.columns;
       nodes = r.nodes;
       bytes =
           subst (Fit p.bytes)
-          (ap (λ (n : ℕ). n + length (flat (brought_by parcel d))) (sym (own_length parcel d h fits.plain)) ∙ sym (length-append (own_bytes parcel d) (flat (brought_by parcel d)))) r.bytes;
+          (ap (λ (n : ℕ). n + length (flat (brought_by parcel d))) (sym (own_length parcel d h)) ∙ sym (length-append (own_bytes parcel d) (flat (brought_by parcel d)))) r.bytes;
       shorts = subst (Fit p.shorts) (sym (count_length (value_at 2 body) (plan_in d).shorts)) r.shorts;
       words = subst (Fit p.words) (sym (count_length (value_at 4 body) (plan_in d).words)) r.words;
       longs = subst (Fit p.longs) (sym (count_length (value_at 8 body) (plan_in d).longs)) r.longs;
@@ -227,8 +226,7 @@ unfolding takes_all nodes_from brought_all Row
 filed_one p q parcel d span ready small h f r g =
     let m : Marks = marks_of p in
     let body : List ℕ = within parcel d.parts.body in
-    let fits = plan_within parcel d (plan_in d) refl h f.body body refl in
-    let own = own_length parcel d h fits.plain in
+    let own = own_length parcel d h in
     let room = room_one p parcel d span m h f r in
     let entry = entry_added (entry_of d span m) no_node ready.nodes.fits g.nodes in
     let bytes : Gains p.bytes (own_bytes parcel d ++ (flat (brought_by parcel d) ++ [])) q.bytes =
@@ -275,10 +273,6 @@ pub record Storing (p q : Pools) (parcel : List ℕ) (ds : List Draft) (sizes : 
   pub room : Fits q (takes_all parcel rest)
   pub long : length rest ≡ length left
   pub then : (r : Pools) → Filed q r parcel rest left → Filed p r parcel ds sizes
-
-pub storing_start : {p : Pools} {parcel : List ℕ} {ds : List Draft} {ss : List ℕ} → Ready p → AllByRecursion (Drafted parcel) ds → AllByRecursion Filled ds → Fits p (takes_all parcel ds) → length ds ≡ length ss
-    → Storing p p parcel ds ss ds ss
-storing_start r a f h e = record { ready = r; drafted = a; filled = f; room = h; long = e; then = λ q filed. filed }
 
 pub storing_next : {p q : Pools} {parcel : List ℕ} {ds : List Draft} {ss : List ℕ} {before rest : List Draft} {from left : List ℕ} (d : Draft) (size : ℕ) → before ≡ d ∷ rest → from ≡ size ∷ left
     → Storing p q parcel ds ss before from → Storing p q parcel ds ss (d ∷ rest) (size ∷ left)

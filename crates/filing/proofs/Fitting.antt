@@ -1,5 +1,5 @@
 -- What is added to a pool has room in it.
-use Rattle.std.proofs.Common.{◌≡◌, ℕ, ◌+◌, ◌*◌, ◌≤◌, true, List, ◌++◌, map, length, drop, Some, None, Option, sym, refl, ap, ◌∙◌, subst, ap₂, arith, rules, length-append}
+use Rattle.std.proofs.Common.{◌≡◌, ℕ, ◌+◌, ◌*◌, ◌≤◌, true, List, ◌++◌, map, length, drop, Some, None, Option, sym, refl, ◌∙◌, subst, ap₂, arith, rules, length-append}
 use lib.ListN.{length-map}
 use Rattle.formats.specs.declared.format.Width.TheVariants.{One, Two, Four, Eight}
 use Rattle.formats.specs.declared.kind.Kind.{Kind}
@@ -12,19 +12,17 @@ use Rattle.columns.proofs.Rows.{length_of_slice}
 use Rattle.columns.specs.Sent.{number_of}
 use Rattle.pools.specs.declared.records.Part.{Part}
 use Rattle.pools.specs.declared.pool.Pool.{Pool}
-use Rattle.pools.specs.Laid.{halves_in, entries_in}
+use Rattle.pools.specs.Laid.{number_in, halves_in, entries_in}
 use Rattle.pools.specs.Used.{Fit, Gains}
 use Rattle.parcels.specs.declared.draft.Draft.{Draft}
 use Rattle.parcels.specs.declared.draft.Parts.{Parts}
 use Rattle.parcels.specs.Reads.{within, Within, MaskWithin, Inside}
 use Rattle.parcels.specs.Lent.{readable, data_from, brought_from}
 use Rattle.parcels.specs.Drafts.{Drafted}
-use Rattle.filing.specs.declared.plan.Plan.{Plan}
-use Rattle.filing.specs.Lent.{flat}
+use Rattle.filing.specs.Bodies.{BodyRoom}
 use Rattle.filing.specs.Masks.{mask_len, mask_sent}
-use Rattle.filing.specs.Plans.{plan_of, body_bytes}
+use Rattle.filing.specs.Plans.{Plan, plan_of, body_bytes, place_in}
 use Rattle.filing.specs.News.{Room, node_news, plan_in, own_bytes, brought_by, brought_start}
-use Rattle.columns.specs.Contents.{value_at}
 use Rattle.pools.specs.declared.pools.Pools.{Pools}
 use Rattle.pools.specs.declared.pools.Marks.{Marks}
 use Rattle.pools.specs.declared.records.Node.{Node as Entry}
@@ -61,16 +59,23 @@ none_brought : (parcel : List ℕ) (at n : ℕ) → length (brought_from parcel 
 unfolding brought_from
 none_brought parcel at n = omega arith
 
-eq_le : {a b : ℕ} → a ≡ b → a ≤ b
-eq_le {a} {b} e = omega arith
+-- the part that is taken byte by byte lies in the parcel
+pub plain_within : (parcel : List ℕ) (k : Kind) (x : Parts) (n : ℕ) → Inside parcel x → Within parcel (plan_of k x n).plain
+plain_within parcel (Primitive One) x n i = search rules
+plain_within parcel (Primitive Two) x n i = search rules
+plain_within parcel (Primitive Four) x n i = search rules
+plain_within parcel (Primitive Eight) x n i = search rules
+plain_within parcel Boolean x n i = search rules
+plain_within parcel (Text wide) x n i = search rules
+plain_within parcel View x n i = search rules
+plain_within parcel (ListOf wide) x n i = search rules
+plain_within parcel Map x n i = search rules
+plain_within parcel Struct x n i = search rules
+plain_within parcel RunEnds x n i = search rules
+plain_within parcel (FixedList size) x n i = search rules
 
--- the parts and counts of a plan lie within what the parcel has, and within a body of so many bytes
+-- the data buffers of a plan lie in the parcel, and its views within a body of so many bytes
 pub record PlanFits (parcel : List ℕ) (x : Parts) (size : ℕ) (p : Plan) : Type 0 where
-  pub plain : Within parcel p.plain
-  pub shorts : 2 * p.shorts ≤ size
-  pub words : 4 * p.words ≤ size
-  pub longs : 8 * p.longs ≤ size
-  pub offsets : wide_bytes p.wide * p.offsets ≤ size
   pub views : 16 * p.views ≤ size
   pub list : readable parcel p.list.start p.list.len ≡ true
   pub new : length (brought_from parcel p.list.start p.list.len) ≤ length (brought_from parcel x.lent.start x.lent.len)
@@ -89,63 +94,56 @@ plan_fits parcel Struct x n i r h = search (rules, none_readable, none_brought)
 plan_fits parcel RunEnds x n i r h = search (rules, none_readable, none_brought)
 plan_fits parcel (FixedList size) x n i r h = search (rules, none_readable, none_brought)
 
-pub plan_within : (parcel : List ℕ) (d : Draft) (p : Plan) → p ≡ plan_in d → Drafted parcel d → d.parts.body.len ≡ body_bytes d.kind d.head.rows
-    → (body : List ℕ) → body ≡ within parcel d.parts.body → PlanFits parcel d.parts (length body) p
-plan_within parcel d p e h b body is =
-    subst (λ (n : ℕ). PlanFits parcel d.parts n p) (sym (ap length is ∙ part_length parcel d.parts.body h.parts.body))
-    (subst (PlanFits parcel d.parts d.parts.body.len) (sym e) (plan_fits parcel d.kind d.parts d.head.rows h.parts h.lent b))
+pub plan_within : (parcel : List ℕ) (d : Draft) → Drafted parcel d → d.parts.body.len ≡ body_bytes d.kind d.head.rows → PlanFits parcel d.parts (length (within parcel d.parts.body)) (plan_in d)
+plan_within parcel d h b =
+    subst (λ (n : ℕ). PlanFits parcel d.parts n (plan_in d)) (sym (part_length parcel d.parts.body h.parts.body))
+    (plan_fits parcel d.kind d.parts d.head.rows h.parts h.lent b)
 
 -- what is taken of a draft byte by byte
-pub own_length : (parcel : List ℕ) (d : Draft) → Drafted parcel d → Within parcel (plan_in d).plain → length (own_bytes parcel d) ≡ d.head.format.len + (mask_len d.parts.mask + (plan_in d).plain.len)
-own_length parcel d h p =
+pub own_length : (parcel : List ℕ) (d : Draft) → Drafted parcel d → length (own_bytes parcel d) ≡ d.head.format.len + (mask_len d.parts.mask + (plan_in d).plain.len)
+own_length parcel d h =
     length-append (within parcel d.head.format) (mask_sent parcel d.parts.mask ++ within parcel (plan_in d).plain)
     ∙ ap₂ (λ (a b : ℕ). a + b) (part_length parcel d.head.format h.head)
     (length-append (mask_sent parcel d.parts.mask) (within parcel (plan_in d).plain)
-    ∙ ap₂ (λ (a b : ℕ). a + b) (mask_length parcel d.parts.mask h.parts.mask) (part_length parcel (plan_in d).plain p))
-
-pub own_planned : (parcel : List ℕ) (d : Draft) (x : Plan) → x ≡ plan_in d → Drafted parcel d → Within parcel x.plain
-    → length (within parcel d.head.format ++ (mask_sent parcel d.parts.mask ++ within parcel x.plain)) ≡ d.head.format.len + (mask_len d.parts.mask + x.plain.len)
-own_planned parcel d x e h p =
-    subst (λ (q : Plan). length (within parcel d.head.format ++ (mask_sent parcel d.parts.mask ++ within parcel q.plain)) ≡ d.head.format.len + (mask_len d.parts.mask + q.plain.len)) (sym e)
-    (own_length parcel d h (subst (λ (q : Plan). Within parcel q.plain) e p))
-
--- room for what a plan takes
-pub record PlanRoom (p : Pools) (x : Plan) : Type 0 where
-  pub shorts : Fit p.shorts x.shorts
-  pub words : Fit p.words x.words
-  pub longs : Fit p.longs x.longs
-  pub offsets : Fit p.offsets x.offsets
-  pub views : Fit p.views x.views
-  pub lists : Fit p.lists x.list.len
+    ∙ ap₂ (λ (a b : ℕ). a + b) (mask_length parcel d.parts.mask h.parts.mask) (part_length parcel (plan_in d).plain (plain_within parcel d.kind d.parts d.head.rows h.parts)))
 
 fit_count : {X : Type 0} {p : Pool X} (m n : ℕ) → m ≡ n → Fit p m → Fit p n
 fit_count {X} {p} m n e f = subst (Fit p) e f
 
-pub plan_room : (p : Pools) (parcel : List ℕ) (d : Draft) (span : ℕ) (m : Marks) (x : Plan) → x ≡ plan_in d → Room p (node_news parcel d span m) → PlanRoom p x
-plan_room p parcel d span m x e r =
-    subst (PlanRoom p) (sym e)
-    (record {
-      shorts = fit_count _ _ (count_length (value_at 2 (within parcel d.parts.body)) (plan_in d).shorts) r.shorts;
-      words = fit_count _ _ (count_length (value_at 4 (within parcel d.parts.body)) (plan_in d).words) r.words;
-      longs = fit_count _ _ (count_length (value_at 8 (within parcel d.parts.body)) (plan_in d).longs) r.longs;
-      offsets = fit_count _ _ (count_length (value_at (wide_bytes (plan_in d).wide) (within parcel d.parts.body)) (plan_in d).offsets) r.offsets;
-      views = fit_count _ _ (entries_length halves_in 16 (plan_in d).views (within parcel d.parts.body)) r.views;
-      lists = fit_count _ _ (data_length parcel (plan_in d).list.start m.buffers (plan_in d).list.len) r.lists;
-    })
+-- room for what a draft takes
+module _ (p : Pools) (parcel : List ℕ) (d : Draft) (span : ℕ) (m : Marks) (r : Room p (node_news parcel d span m)) where
+  pub body_room : BodyRoom p (plan_in d)
+  body_room =
+      let body : List ℕ = within parcel d.parts.body in
+      record {
+        shorts = fit_count _ _ (entries_length (number_in 2) 2 (plan_in d).shorts body) r.shorts;
+        words = fit_count _ _ (entries_length (number_in 4) 4 (plan_in d).words body) r.words;
+        longs = fit_count _ _ (entries_length (number_in 8) 8 (plan_in d).longs body) r.longs;
+        offsets = fit_count _ _ (entries_length (number_in (wide_bytes (plan_in d).wide)) (wide_bytes (plan_in d).wide) (plan_in d).offsets body) r.offsets;
+        views = fit_count _ _ (entries_length halves_in 16 (plan_in d).views body) r.views;
+      }
 
--- the byte pool: a draft's own bytes, and then its new data buffers
-pub bytes_room : (p : Pools) (parcel : List ℕ) (d : Draft) (span : ℕ) (m : Marks) (x : Plan) → x ≡ plan_in d → Drafted parcel d → Within parcel x.plain → Room p (node_news parcel d span m)
-    → Fit p.bytes (d.head.format.len + (mask_len d.parts.mask + x.plain.len) + length (flat (brought_by parcel d)))
-bytes_room p parcel d span m x e h w r =
-    fit_count _ _
-    (length-append (own_bytes parcel d) (flat (brought_by parcel d))
-    ∙ ap (λ (n : ℕ). n + length (flat (brought_by parcel d)))
-    (own_length parcel d h (subst (λ (q : Plan). Within parcel q.plain) e w)
-    ∙ ap (λ (q : Plan). d.head.format.len + (mask_len d.parts.mask + q.plain.len)) (sym e)))
-    r.bytes
+  pub lists_room : Fit p.lists (plan_in d).list.len
+  lists_room = fit_count _ _ (data_length parcel (plan_in d).list.start m.buffers (plan_in d).list.len) r.lists
 
-pub brought_room : (p : Pools) (parcel : List ℕ) (d : Draft) (span : ℕ) (m : Marks) → Room p (node_news parcel d span m) → Fit p.buffers (length (brought_by parcel d))
-brought_room p parcel d span m r = fit_count _ _ (parts_length (brought_start d m) (brought_by parcel d)) r.buffers
+  pub brought_room : Fit p.buffers (length (brought_by parcel d))
+  brought_room = fit_count _ _ (parts_length (brought_start d m) (brought_by parcel d)) r.buffers
+
+-- a place does not depend on how many bytes there are
+pub place_same : (k : Kind) (plain bytes : ℕ) (m : Marks)
+    → place_in k plain (record { columns = m.columns; nodes = m.nodes; bytes = bytes; shorts = m.shorts; words = m.words; longs = m.longs; offsets = m.offsets; views = m.views; lists = m.lists; buffers = m.buffers }) ≡ place_in k plain m
+place_same (Primitive One) plain bytes m = refl
+place_same (Primitive Two) plain bytes m = refl
+place_same (Primitive Four) plain bytes m = refl
+place_same (Primitive Eight) plain bytes m = refl
+place_same Boolean plain bytes m = refl
+place_same (Text wide) plain bytes m = refl
+place_same View plain bytes m = refl
+place_same (ListOf wide) plain bytes m = refl
+place_same Map plain bytes m = refl
+place_same Struct plain bytes m = refl
+place_same RunEnds plain bytes m = refl
+place_same (FixedList size) plain bytes m = refl
 
 -- an entry by its parts
 pub entry_is : (d : Draft) (span : ℕ) (m : Marks) {f f' t t' b b' : Part} {k k' : Option ℕ} {p p' : ℕ} → f ≡ f' → k ≡ k' → p ≡ p' → t ≡ t' → b ≡ b'

@@ -39,14 +39,13 @@ use Rattle.parcels.specs.declared.draft.Parts.{Parts}
 use Rattle.parcels.specs.Reads.{within, Within, MaskWithin, mask_of, sent_of}
 use Rattle.parcels.specs.Lent.{data_from}
 use Rattle.parcels.specs.Drafts.{Drafted, node_in, head_in}
-use Rattle.filing.specs.declared.plan.Plan.{Plan}
 use Rattle.pools.specs.Laid.{halves_in, entries_in}
 use Rattle.filing.specs.Lent.{flat}
 use Rattle.filing.specs.Masks.{mask_len, mask_sent, mask_at}
-use Rattle.filing.specs.Plans.{plan_of, place_in, body_bytes}
+use Rattle.filing.specs.Plans.{Plan, plan_of, place_in, body_bytes}
 use Rattle.filing.specs.News.{Gained, Filled, MaskFilled, node_news, plan_in, brought_by, plain_start, entry_of}
 use Rattle.filing.proofs.Numbers.{views_told}
-use Rattle.filing.proofs.Fitting.{part_length, mask_length, count_length, entries_length, data_length, plan_within}
+use Rattle.filing.proofs.Fitting.{part_length, mask_length, count_length, entries_length, data_length, plain_within, plan_within}
 
 -- a part of what was added
 pub segment_mid : {X : Type 0} {m m1 : ℕ} {xs xs1 : List X} (a b c : List X) → m ≤ length xs → Grown m xs (a ++ (b ++ c)) m1 xs1 → Segment (take m1 xs1) (m + length a) (length b) b
@@ -153,7 +152,7 @@ pub node_held : (p q : Pools) (parcel : List ℕ) (d : Draft) (span : ℕ) → R
     → Held (store q) (entry_of d span (marks_of p)) (node_in parcel d (data_from parcel d.parts.lent.start p.buffers.mark d.parts.lent.len)) d.head.children span
 node_held p q parcel d span ready small h f g =
     let body : List ℕ = within parcel d.parts.body in
-    let fits = plan_within parcel d (plan_in d) refl h f.body body refl in
+    let fits = plan_within parcel d h f.body in
     let m : Marks = marks_of p in
     let F : List ℕ = within parcel d.head.format in
     let M : List ℕ = mask_sent parcel d.parts.mask in
@@ -161,7 +160,7 @@ node_held p q parcel d span ready small h f g =
     let Z : List ℕ = flat (brought_by parcel d) in
     let fl : length F ≡ d.head.format.len = part_length parcel d.head.format h.head in
     let ml : length M ≡ mask_len d.parts.mask = mask_length parcel d.parts.mask h.parts.mask in
-    let ll : length L ≡ (plan_in d).plain.len = part_length parcel (plan_in d).plain fits.plain in
+    let ll : length L ≡ (plan_in d).plain.len = part_length parcel (plan_in d).plain (plain_within parcel d.kind d.parts d.head.rows h.parts) in
     let all : (F ++ (M ++ L)) ++ Z ≡ F ++ (M ++ (L ++ Z)) = append_assoc F (M ++ L) Z ∙ ap (λ (l : List ℕ). F ++ l) (append_assoc M L Z) in
     let bytes : Gains p.bytes (F ++ (M ++ (L ++ Z))) q.bytes = subst (λ (new : List ℕ). Gains p.bytes new q.bytes) all g.bytes in
     let bytes_two : Gains p.bytes ((F ++ M) ++ (L ++ Z)) q.bytes = subst (λ (new : List ℕ). Gains p.bytes new q.bytes) (sym (append_assoc F M (L ++ Z))) bytes in

@@ -2,6 +2,7 @@ pub mod Lent
 pub mod Row
 pub mod Masks
 pub mod Plans
+pub mod Bodies
 pub mod News
 pub mod Filed
 pub mod Counts

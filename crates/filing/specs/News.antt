@@ -14,11 +14,10 @@ use Rattle.pools.specs.Used.{Fit, Gains}
 use Rattle.parcels.specs.declared.draft.Draft.{Draft}
 use Rattle.parcels.specs.Reads.{within}
 use Rattle.parcels.specs.Lent.{data_from, brought_from}
-use Rattle.filing.specs.declared.plan.Plan.{Plan}
 use Rattle.pools.specs.Laid.{halves_in, entries_in}
 use Rattle.filing.specs.Lent.{flat, parts_from}
 use Rattle.filing.specs.Masks.{mask_len, mask_sent, mask_at}
-use Rattle.filing.specs.Plans.{plan_of, place_in, body_bytes}
+use Rattle.filing.specs.Plans.{Plan, plan_of, place_in, body_bytes}
 
 pub record News : Type 0 where
   pub columns : List ColumnEntry

@@ -9,7 +9,18 @@ use Rattle.pools.specs.declared.records.Part.{Part}
 use Rattle.pools.specs.declared.pools.Marks.{Marks}
 use Rattle.pools.specs.Store.{no_part}
 use Rattle.parcels.specs.declared.draft.Parts.{Parts}
-use Rattle.filing.specs.declared.plan.Plan.{Plan}
+
+-- The part that is taken byte by byte, the entries that the body takes of each pool, whether its offsets are of eight
+-- bytes, and the data buffers that are listed.
+pub record Plan : Type 0 where
+  pub plain : Part
+  pub shorts : ℕ
+  pub words : ℕ
+  pub longs : ℕ
+  pub offsets : ℕ
+  pub wide : Bool
+  pub views : ℕ
+  pub list : Part
 
 abbrev pub planned : (plain : Part) (shorts words longs offsets : ℕ) (wide : Bool) (views : ℕ) (list : Part) → Plan
 planned plain s w l o wide v list = record { plain = plain; shorts = s; words = w; longs = l; offsets = o; wide = wide; views = v; list = list }

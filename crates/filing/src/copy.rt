@@ -1,9 +1,13 @@
 // Parts of a parcel, as they are, into the byte pool.
-ghost use Rattle.std.specs.Prelude.{◌≡◌, ◌+◌, ◌++◌, length};
+ghost use Rattle.std.specs.Prelude.{◌≡◌, ◌+◌, length};
 ghost use Rattle.pools.specs.Used.{Fit, Gains};
-ghost use Rattle.parcels.specs.Reads.{within, Within, MaskWithin};
+ghost use Rattle.parcels.specs.Reads.{MaskWithin};
+ghost use Rattle.parcels.specs.Drafts.{Drafted};
 ghost use Rattle.filing.specs.Masks.{mask_len, mask_sent, mask_at};
+ghost use Rattle.filing.specs.News.{own_bytes, plan_in};
 
+use crate::body::plain_part;
+use parcels::draft::Draft;
 use pools::pool::Pool;
 use pools::records::Part;
 
@@ -41,25 +45,17 @@ fn copy_mask(bytes: &mut Pool<'_, u8>, parcel: &[u8], mask: Option<Part>) -> Opt
 }
 
 // Adds a node's format, its mask, and the part that is taken as it is.
-pub(crate) fn copy_parts(
-    bytes: &mut Pool<'_, u8>,
-    parcel: &[u8],
-    format: Part,
-    mask: Option<Part>,
-    plain: Part,
-) -> Copied
-    requires room { Fit bytes.old (format.len + (mask_len mask + plain.len)) }
-    requires format { Within parcel.now format }
-    requires mask { MaskWithin parcel.now mask }
-    requires plain { Within parcel.now plain }
-    ensures added { Gains bytes.old (within parcel.now format ++ (mask_sent parcel.now mask ++ within parcel.now plain)) bytes.new }
-    ensures format { result.format ≡ record { start = bytes.old.mark; len = format.len } }
-    ensures mask { result.mask ≡ mask_at mask (bytes.old.mark + format.len) }
-    ensures plain { result.plain ≡ record { start = bytes.old.mark + format.len + mask_len mask; len = plain.len } }
+pub(crate) fn copy_parts(bytes: &mut Pool<'_, u8>, parcel: &[u8], draft: Draft) -> Copied
+    requires room { Fit bytes.old (length (own_bytes parcel.now draft)) }
+    requires drafted { Drafted parcel.now draft }
+    ensures added { Gains bytes.old (own_bytes parcel.now draft) bytes.new }
+    ensures format { result.format ≡ record { start = bytes.old.mark; len = draft.head.format.len } }
+    ensures mask { result.mask ≡ mask_at draft.parts.mask (bytes.old.mark + draft.head.format.len) }
+    ensures plain { result.plain ≡ record { start = bytes.old.mark + draft.head.format.len + mask_len draft.parts.mask; len = (plan_in draft).plain.len } }
 {
     Copied {
-        format: copy_part(bytes, format.of(parcel)),
-        mask: copy_mask(bytes, parcel, mask),
-        plain: copy_part(bytes, plain.of(parcel)),
+        format: copy_part(bytes, draft.head.format.of(parcel)),
+        mask: copy_mask(bytes, parcel, draft.parts.mask),
+        plain: copy_part(bytes, plain_part(draft).of(parcel)),
     }
 }

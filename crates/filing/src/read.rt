@@ -1,39 +1,27 @@
 // Entries as they lie in a buffer, into the pools.
 ghost use Rattle.std.specs.Prelude.{◌≡◌, ◌*◌, ◌<◌, ◌≤◌, List, length, take};
 ghost use Rattle.std.specs.List.{AllZip};
-ghost use Rattle.columns.specs.Contents.{values_in};
-ghost use Rattle.formats.specs.Spelled.{wide_bytes};
 ghost use Rattle.pools.specs.Laid.{entries_in};
 ghost use Rattle.pools.specs.Used.{Fit, Gains};
 
 use pools::laid::Laid;
 use pools::pool::Pool;
 
-// Adds so many entries, each made of what lies in the buffer for it.
+// Adds so many entries, each made of what lies in the buffer for it, and says where they start.
 pub(crate) fn put_entries<T: Laid, E: From<T> + Copy>(
     pool: &mut Pool<'_, E>,
     body: &[u8],
     count: usize,
-)
+) -> usize
     requires sized { 0 < T.SIZE }
     requires room { Fit pool.old count }
     requires filled { T.SIZE * count ≤ length body.now }
-    ensures { (new : List _) × AllZip E.from_gives (entries_in (λ bytes. T.told (take T.SIZE bytes)) T.SIZE count body.now) new × Gains pool.old new pool.new }
+    ensures added { (new : List _) × AllZip E.from_gives (entries_in (λ bytes. T.told (take T.SIZE bytes)) T.SIZE count body.now) new × Gains pool.old new pool.new }
+    ensures start { result ≡ pool.old.mark }
 {
+    let start = pool.mark;
     for entry in body.chunks_exact(T::SIZE).take(count) {
         pool.append(E::from(T::first_of(entry)));
     }
-}
-
-// Adds so many offsets, of eight bytes where they are wide, else of four.
-pub(crate) fn put_offsets(offsets: &mut Pool<'_, u64>, body: &[u8], count: usize, wide: bool)
-    requires room { Fit offsets.old count }
-    requires filled { wide_bytes wide * count ≤ length body.now }
-    ensures { Gains offsets.old (values_in (wide_bytes wide) count body.now) offsets.new }
-{
-    if wide {
-        put_entries::<u64, u64>(offsets, body, count);
-    } else {
-        put_entries::<u32, u64>(offsets, body, count);
-    }
+    start
 }

@@ -6,10 +6,10 @@ use Rattle.columns.specs.Sound.{little_endian}
 use Rattle.columns.specs.Sent.{is_named}
 use Rattle.pools.specs.declared.records.Part.{Part}
 use Rattle.pools.specs.Parts.{buffers_in}
+use Rattle.parcels.specs.Sents.{SentAt}
 use Rattle.parcels.specs.Lent.{data_size, place_of, number_at, bytes_at}
 use Rattle.soundness.specs.declared.places.Places.{Places}
 use Rattle.soundness.specs.declared.sent.DataBuffer.{DataBuffer}
-use Rattle.parcels.specs.Sents.{SentAt}
 
 -- every `stride`-th place is known
 pub record Indexed (parcel : List ℕ) (lent : Part) (x : Places) : Type 0 where
