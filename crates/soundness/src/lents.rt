@@ -5,7 +5,7 @@ ghost use Rattle.parcels.specs.Sents.{SentAt};
 
 use parcels::sent::Sent;
 
-// How the data buffer at a place is sent: from 2 ^ 31 on, its length is a number.
+// How the data buffer at a place is sent.
 pub fn sent_at(parcel: &[u8], at: usize) -> Sent
     requires { at + data_size parcel.now at ≤ length parcel.now }
     ensures { SentAt parcel.now at result }
