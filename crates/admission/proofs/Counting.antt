@@ -16,10 +16,11 @@ use Rattle.parcels.specs.declared.draft.Draft.{Draft}
 use Rattle.pools.specs.declared.pools.Marks.{Marks}
 use Rattle.admission.specs.Needs.{needed, one_new, one_bytes, width_entries, kind_entries, draft_entries, drafts_need}
 use Rattle.soundness.specs.declared.sent.DataBuffer.{DataBuffer}
-use Rattle.soundness.specs.declared.sent.Sent.{Sent}
-use Rattle.soundness.specs.declared.sent.Sent.TheVariants.{Brought, Named}
+use Rattle.parcels.specs.declared.sent.Sent.{Sent}
+use Rattle.parcels.specs.declared.sent.Sent.TheVariants.{Brought, Named}
 use Rattle.soundness.specs.Buffers.{buffers_from}
-use Rattle.soundness.specs.Sources.{SentAt, Told}
+use Rattle.parcels.specs.Sents.{SentAt}
+use Rattle.soundness.specs.Sources.{Told}
 use Rattle.soundness.proofs.Buffers.{bytes_then, brought_in, brought_is, buffers_told, length_buffers}
 
 -- the data buffers of a list that are brought, and their bytes

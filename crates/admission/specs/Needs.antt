@@ -12,8 +12,8 @@ use Rattle.formats.specs.declared.kind.Kind.TheVariants.{Primitive, Boolean, Tex
 use Rattle.formats.specs.declared.kind.Kind.TheVariants.{List as ListOf}
 use Rattle.parcels.specs.declared.draft.Draft.{Draft}
 use Rattle.parcels.specs.Lent.{brought_from}
-use Rattle.soundness.specs.declared.sent.Sent.{Sent}
-use Rattle.soundness.specs.declared.sent.Sent.TheVariants.{Brought, Named}
+use Rattle.parcels.specs.declared.sent.Sent.{Sent}
+use Rattle.parcels.specs.declared.sent.Sent.TheVariants.{Brought, Named}
 
 -- of pools 1 to 11: nothing of the slip
 abbrev pub needed : Marks → List ℕ

@@ -10,16 +10,16 @@ ghost use Rattle.admission.specs.Needs.{needed, mask_need, width_entries, kind_e
 use formats::format::Width;
 use formats::kind::Kind;
 use parcels::draft::Draft;
+use parcels::sent::Sent;
 use pools::entries::Entries;
 use pools::pools::Marks;
 use pools::records::Part;
 use soundness::data_buffers::DataBuffers;
 use soundness::node::SentNode;
-use soundness::sent::Sent;
 use soundness::values::bit_bytes;
 
 // The data buffers that a node brings: how many, and how many bytes they have.
-#[derive(Clone, Copy)]
+#[derive(Clone, Copy, Default)]
 struct NewBuffers {
     count: usize,
     bytes: usize,
@@ -32,7 +32,7 @@ fn brought(lent: DataBuffers<'_>) -> NewBuffers
     ensures few { result.count < 65536 }
     ensures low { result.bytes < 140737488355328 }
 {
-    let mut total = NewBuffers { count: 0, bytes: 0 };
+    let mut total = NewBuffers::default();
     for buffer in lent {
         match buffer.sent {
             Sent::Brought(len) => {

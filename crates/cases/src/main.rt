@@ -47,6 +47,7 @@ fn split_case<'a>(input: &'a [u8]) -> Option<(Case<'a>, &'a [u8])>
     Some((Case { lengths, stream }, after))
 }
 
+// The vectors are written out, one for each kind of entry.
 fn run_case<W: Write>(heap: Global, case: Case<'_>, out: &mut W) -> io::Result<()> {
     let [
         columns,

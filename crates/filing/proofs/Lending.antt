@@ -9,9 +9,10 @@ use Rattle.pools.specs.declared.records.Part.{Part}
 use Rattle.pools.specs.declared.pool.Pool.{Pool}
 use Rattle.pools.specs.Used.{Fit, Gains}
 use Rattle.soundness.specs.declared.sent.DataBuffer.{DataBuffer}
-use Rattle.soundness.specs.declared.sent.Sent.TheVariants.{Named}
+use Rattle.parcels.specs.declared.sent.Sent.TheVariants.{Named}
 use Rattle.parcels.specs.Lent.{readable, data_from, brought_from}
-use Rattle.soundness.specs.Sources.{SentAt, Told}
+use Rattle.parcels.specs.Sents.{SentAt}
+use Rattle.soundness.specs.Sources.{Told}
 use Rattle.soundness.specs.Buffers.{buffers_from}
 use Rattle.soundness.proofs.Buffers.{length_buffers, data_is, brought_is, buffers_told, data_in, brought_in}
 use Rattle.filing.specs.Lent.{flat, parts_from}

@@ -6,10 +6,10 @@ ghost use Rattle.parcels.specs.Lent.{readable, data_from, brought_from};
 ghost use Rattle.filing.specs.Lent.{flat, parts_from};
 
 use crate::copy::copy_part;
+use parcels::sent::Sent;
 use pools::pool::Pool;
 use pools::records::Part;
 use soundness::data_buffers::DataBuffers;
-use soundness::sent::Sent;
 
 // Adds the numbers of a node's data buffers, new ones being numbered from `first` on, and says where they lie.
 pub(crate) fn put_numbers(

@@ -48,7 +48,8 @@ pub enum Tick {
     Nano,
 }
 
-// What a format string spells. A timestamp's zone is a part of the string itself; `wide` offsets have 64 bits.
+// What a format string spells. A timestamp's zone is a part of the string itself; `wide` offsets have 64 bits
+// and others 32: a `Width` would also say that they have 8 or 16.
 #[derive(Clone, Copy)]
 pub enum Format<'a> {
     Primitive(Family, Width),
@@ -83,7 +84,7 @@ fn plain(letter: char) -> Option<(Family, Width)>
     }
 }
 
-// A letter that spells a unit of time.
+// A letter that spells a unit of time. No `TryFrom`, since no caller would look at its error.
 fn tick_of(letter: char) -> Option<Tick>
     ensures { result ≡ tick_of letter }
 {

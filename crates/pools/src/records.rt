@@ -41,7 +41,7 @@ pub struct View {
 }
 
 // A node of a column. Its children's nodes come after it, each with all its own, so that `span` counts the nodes of the
-// whole subtree. `place` is where its values, booleans, offsets or views start in the pool that has them.
+// whole subtree; a tree of boxes would need a heap. `place` is where its values, booleans, offsets or views start in the pool that has them.
 #[derive(Clone, Copy, PartialEq, Eq, Debug, Default)]
 pub struct Node {
     pub kind: Kind,

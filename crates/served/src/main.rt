@@ -8,7 +8,7 @@ use shelf::owner::Shelf;
 use std::io;
 use wire::serve::serve;
 
-// Each pool has so many entries.
+// Each pool has so many entries. The arrays are written out, one for each kind of entry.
 const ENTRIES: usize = 2_048;
 
 // `read` writes a row's text into a buffer of so many bytes.

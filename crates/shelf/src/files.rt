@@ -30,6 +30,7 @@ fn file_into(pools: &mut Pools<'_>, slip: usize, parcel: &[u8]) -> Result<u32, D
         slip,
     };
     let marks = Entries::from(pools.marks());
+    // A table of fixed size, since the shelf has no heap.
     let mut drafts = [Draft::default(); 256];
     let accepted = examine(
         parcel,

@@ -6,10 +6,11 @@ use Rattle.columns.specs.Sent.{Data, brought, named, is_named, buffer_length}
 use Rattle.parcels.specs.Lent.{data_size, place_of, readable, number_at, bytes_at, data_from, brought_from}
 use Rattle.parcels.proofs.Lents.{readable_at, readable_part}
 use Rattle.soundness.specs.declared.sent.DataBuffer.{DataBuffer}
-use Rattle.soundness.specs.declared.sent.Sent.{Sent}
-use Rattle.soundness.specs.declared.sent.Sent.TheVariants.{Brought, Named}
+use Rattle.parcels.specs.declared.sent.Sent.{Sent}
+use Rattle.parcels.specs.declared.sent.Sent.TheVariants.{Brought, Named}
 use Rattle.soundness.specs.Buffers.{sent_in, buffer_in, buffers_from}
-use Rattle.soundness.specs.Sources.{SentAt, Told}
+use Rattle.parcels.specs.Sents.{SentAt}
+use Rattle.soundness.specs.Sources.{Told}
 use Rattle.soundness.proofs.Held.{data_named, data_brought, none_brought, one_brought}
 
 -- the first of them, and the others

@@ -5,8 +5,8 @@ use Rattle.formats.specs.Spelled.{lifted}
 use Rattle.parcels.specs.Lent.{data_from}
 use Rattle.columns.specs.Sent.{Data}
 use Rattle.soundness.specs.declared.sent.DataBuffer.{DataBuffer}
-use Rattle.soundness.specs.declared.sent.Sent.{Sent}
-use Rattle.soundness.specs.declared.sent.Sent.TheVariants.{Brought, Named}
+use Rattle.parcels.specs.declared.sent.Sent.{Sent}
+use Rattle.parcels.specs.declared.sent.Sent.TheVariants.{Brought, Named}
 use Rattle.soundness.specs.Buffers.{buffers_from}
 use Rattle.soundness.specs.Ladder.{unshelved_in, beyond_of}
 use Rattle.soundness.proofs.Buffers.{datum, following, data_in, data_is}

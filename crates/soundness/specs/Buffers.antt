@@ -3,8 +3,8 @@ use Rattle.std.specs.Prelude.{ℕ, zero, suc, ◌+◌, cond, List, [], ◌∷◌
 use Rattle.columns.specs.Sent.{is_named, buffer_length}
 use Rattle.parcels.specs.Lent.{data_size, number_at}
 use Rattle.soundness.specs.declared.sent.DataBuffer.{DataBuffer}
-use Rattle.soundness.specs.declared.sent.Sent.{Sent}
-use Rattle.soundness.specs.declared.sent.Sent.TheVariants.{Brought, Named}
+use Rattle.parcels.specs.declared.sent.Sent.{Sent}
+use Rattle.parcels.specs.declared.sent.Sent.TheVariants.{Brought, Named}
 
 -- how the data buffer at a place is sent
 abbrev pub sent_in : List ℕ → (at : ℕ) → Sent

@@ -10,8 +10,8 @@ use Rattle.parcels.specs.declared.draft.Draft.{Draft}
 use Rattle.parcels.specs.Lent.{data_from, brought_from}
 use Rattle.parcels.specs.Reads.{sent_of}
 use Rattle.denials.specs.Said.{said}
-use Rattle.soundness.specs.declared.sent.Sent.{Sent}
-use Rattle.soundness.specs.declared.sent.Sent.TheVariants.{Brought, Named}
+use Rattle.parcels.specs.declared.sent.Sent.{Sent}
+use Rattle.parcels.specs.declared.sent.Sent.TheVariants.{Brought, Named}
 use Rattle.parcels.specs.Roles.{role_of}
 use Rattle.parcels.specs.Drafts.{sound_by, kind_sound_by, kind_in, head_in, node_in}
 

@@ -1,27 +1,21 @@
 -- The bytes behind a node's data buffers.
-use Rattle.std.specs.Prelude.{◌≡◌, ℕ, ◌+◌, ◌*◌, ◌/◌, ◌<◌, ◌≤◌, Bool, true, false, cond, ◌&&◌, List, [], length, drop, ◌==◌, nat_le, nat_lt, slice_index, slice_index_or}
+use Rattle.std.specs.Prelude.{◌≡◌, ℕ, ◌+◌, ◌*◌, ◌/◌, ◌<◌, ◌≤◌, Bool, true, cond, ◌&&◌, List, [], length, drop, ◌==◌, nat_le, nat_lt, slice_index, slice_index_or}
 use Rattle.columns.specs.Column.{View, short, long}
 use Rattle.columns.specs.Says.{slice}
 use Rattle.columns.specs.Sound.{little_endian}
-use Rattle.columns.specs.Sent.{is_named, buffer_length}
+use Rattle.columns.specs.Sent.{is_named}
 use Rattle.pools.specs.declared.records.Part.{Part}
 use Rattle.pools.specs.Parts.{buffers_in}
+use Rattle.parcels.specs.Sents.{SentAt}
 use Rattle.parcels.specs.Lent.{data_size, place_of, number_at, bytes_at}
 use Rattle.soundness.specs.declared.places.Places.{Places}
 use Rattle.soundness.specs.declared.sent.DataBuffer.{DataBuffer}
-use Rattle.soundness.specs.declared.sent.Sent.{Sent}
-use Rattle.soundness.specs.declared.sent.Sent.TheVariants.{Brought, Named}
 
 -- every `stride`-th place is known
 pub record Indexed (parcel : List ℕ) (lent : Part) (x : Places) : Type 0 where
   pub stride : x.stride ≡ lent.len / 256 + 1
   pub known : (j : ℕ) → j * x.stride < lent.len → slice_index x.marks j ≡ place_of parcel lent.start (j * x.stride)
   pub size : length x.marks ≡ 256
-
--- how the data buffer at a place is sent
-abbrev pub SentAt : List ℕ → (at : ℕ) → Sent → Type 0
-SentAt parcel at (Brought len) = (is_named (drop at parcel) ≡ false) × (len ≡ buffer_length (drop at parcel)) × (len < 2147483648)
-SentAt parcel at (Named number) = (is_named (drop at parcel) ≡ true) × (number ≡ number_at parcel at)
 
 -- what is told of a data buffer that lies in the parcel
 abbrev pub Told : List ℕ → DataBuffer → Type 0

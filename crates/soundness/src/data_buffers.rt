@@ -1,5 +1,5 @@
 // A node's data buffers, one after another.
-ghost use Rattle.std.specs.Prelude.{◌≡◌, ◌+◌, true};
+ghost use Rattle.std.specs.Prelude.{◌≡◌, true};
 ghost use Rattle.parcels.specs.Lent.{readable};
 
 use crate::lents::{after, sent_at};

@@ -1,4 +1,4 @@
-ghost use Rattle.std.specs.Prelude.{◌≡◌, ℕ, ◌+◌, ◌-◌, ◌*◌, ◌/◌, ◌<◌, ◌≤◌, true, List, length};
+ghost use Rattle.std.specs.Prelude.{◌≡◌, ◌≤◌, true, List};
 ghost use Rattle.columns.specs.Sent.{Data};
 ghost use Rattle.columns.specs.SoundTests.{fills, mask_fills};
 ghost use Rattle.formats.specs.Kinds.{layout, offset_width};

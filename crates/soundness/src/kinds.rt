@@ -1,15 +1,11 @@
-ghost use Rattle.std.specs.Prelude.{◌≡◌, ℕ, ◌+◌, ◌-◌, ◌*◌, ◌/◌, ◌<◌, ◌≤◌, List, ◌++◌, length};
+ghost use Rattle.std.specs.Prelude.{◌≡◌, ℕ, ◌+◌, ◌*◌, List, ◌++◌, length};
 ghost use Rattle.std.proofs.Math.Option.{none};
-ghost use Rattle.std.specs.List.{AllByRecursion};
-ghost use Rattle.columns.specs.Checks.{all_of};
 ghost use Rattle.columns.specs.SoundTests.{offsets_sound};
-ghost use Rattle.columns.specs.Contents.{values_in, views_in};
+ghost use Rattle.columns.specs.Contents.{values_in};
 ghost use Rattle.formats.specs.Spelled.{bytes_of};
 ghost use Rattle.pools.specs.Parts.{buffers_in};
-ghost use Rattle.parcels.specs.Reads.{Within, within};
-ghost use Rattle.parcels.specs.Drafts.{Drafted};
+ghost use Rattle.parcels.specs.Reads.{within};
 ghost use Rattle.soundness.specs.Sizes.{Filled};
-ghost use Rattle.soundness.specs.Sources.{sources, view_fine};
 ghost use Rattle.soundness.specs.Ladder.{data_of, unshelved_in, kind_sound_in};
 
 use crate::node::SentNode;

@@ -1,20 +1,20 @@
 // The checks that wait until the whole parcel is read, node by node.
-ghost use Rattle.std.specs.Prelude.{◌≡◌, ℕ, ◌+◌, ◌<◌, ◌≤◌, true, List, length};
+ghost use Rattle.std.specs.Prelude.{◌≡◌, ℕ, length};
 ghost use Rattle.std.specs.List.{AllByRecursion};
 ghost use Rattle.columns.specs.Checks.{first_denial};
 ghost use Rattle.formats.specs.Spelled.{lifted};
 ghost use Rattle.pools.specs.Parts.{buffers_in};
-ghost use Rattle.parcels.specs.Lent.{data_size, readable, data_from};
+ghost use Rattle.parcels.specs.Lent.{data_from};
 ghost use Rattle.parcels.specs.Drafts.{Drafted, checks_of};
 ghost use Rattle.soundness.specs.Ladder.{beyond_of, unshelved_in, denial_in};
 
 use crate::data_buffers::DataBuffers;
 use crate::node::SentNode;
-use crate::sent::Sent;
 use crate::shelved::Shelved;
 use crate::sound::sound;
 use denials::Denial;
 use parcels::draft::Draft;
+use parcels::sent::Sent;
 
 // The number by which a data buffer is sent, where no such buffer was shelved before.
 fn beyond(sent: Sent, before: usize) -> Option<usize>

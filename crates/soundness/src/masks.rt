@@ -1,7 +1,7 @@
-ghost use Rattle.std.specs.Prelude.{◌≡◌, ℕ, ◌+◌, ◌-◌, ◌*◌, ◌/◌, ◌<◌, ◌≤◌, not, length};
+ghost use Rattle.std.specs.Prelude.{◌≡◌, not, length};
 ghost use Rattle.columns.specs.Column.{bytes_for};
 ghost use Rattle.columns.specs.Masks.{some_null};
-ghost use Rattle.columns.specs.Contents.{bit_at, bits_in};
+ghost use Rattle.columns.specs.Contents.{bits_in};
 
 use pools::bits::bit;
 

@@ -1,4 +1,4 @@
-ghost use Rattle.std.specs.Prelude.{◌≡◌, ℕ, ◌+◌, ◌-◌, ◌*◌, ◌/◌, ◌<◌, ◌≤◌, not, ◌&&◌, List, length, nat_le};
+ghost use Rattle.std.specs.Prelude.{◌≡◌, ◌*◌, not, ◌&&◌, List, nat_le};
 ghost use Rattle.columns.specs.Format.{highest};
 ghost use Rattle.columns.specs.Sent.{Data};
 ghost use Rattle.columns.specs.SoundTests.{role_sound, climbs};

@@ -1,9 +1,4 @@
-// A data buffer as it is sent: so many bytes that follow, or the number of one that was shelved before.
-#[derive(Clone, Copy, PartialEq, Eq, Debug)]
-pub enum Sent {
-    Brought(usize),
-    Named(usize),
-}
+use parcels::sent::Sent;
 
 // A data buffer of a node: where it stands in the parcel, and how it is sent.
 #[derive(Clone, Copy, PartialEq, Eq, Debug)]

@@ -2,7 +2,8 @@ ghost use Rattle.std.specs.List.{AllByRecursion};
 ghost use Rattle.parcels.specs.Reads.{Within};
 ghost use Rattle.soundness.specs.Props.{shelved_prop};
 
-use crate::sent::{DataBuffer, Sent};
+use crate::sent::DataBuffer;
+use parcels::sent::Sent;
 use pools::records::Part;
 
 // The data buffers that were shelved before, by number: the parts of a pool of bytes that they are.

@@ -1,5 +1,5 @@
 // Numbers as they lie in a buffer, the lowest byte first.
-ghost use Rattle.std.specs.Prelude.{◌≡◌, ℕ, ◌+◌, ◌-◌, ◌*◌, ◌^◌, ◌<◌, ◌≤◌, Bool, length, take};
+ghost use Rattle.std.specs.Prelude.{◌≡◌, ℕ, ◌-◌, ◌*◌, ◌^◌, ◌<◌, ◌≤◌, Bool, length, take};
 ghost use Rattle.columns.specs.Column.{bytes_for};
 ghost use Rattle.columns.specs.Sound.{little_endian};
 ghost use Rattle.formats.specs.Spelled.{bytes_of, wide_bytes};

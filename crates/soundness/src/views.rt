@@ -1,13 +1,10 @@
-ghost use Rattle.std.specs.Prelude.{◌≡◌, ℕ, ◌+◌, ◌-◌, ◌*◌, ◌/◌, ◌<◌, ◌≤◌, true, ◌&&◌, List, length, ◌==◌, nat_le};
-ghost use Rattle.std.specs.List.{AllByRecursion};
+ghost use Rattle.std.specs.Prelude.{◌≡◌, ◌+◌, ◌*◌, ◌≤◌, ◌&&◌, length, ◌==◌, nat_le};
 ghost use Rattle.columns.specs.Checks.{all_of};
 ghost use Rattle.columns.specs.Says.{slice};
 ghost use Rattle.columns.specs.Sound.{little_endian};
 ghost use Rattle.columns.specs.Contents.{view_in, views_in};
-ghost use Rattle.parcels.specs.Reads.{Within};
-ghost use Rattle.parcels.specs.Lent.{readable};
-ghost use Rattle.soundness.specs.Sources.{sources, view_fine};
 ghost use Rattle.parcels.specs.Reads.{within};
+ghost use Rattle.soundness.specs.Sources.{sources, view_fine};
 
 use crate::index::Index;
 use crate::node::SentNode;
