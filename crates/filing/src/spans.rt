@@ -13,6 +13,7 @@ fn span_at(spans: &[u16], at: usize, children: u8) -> u16
     ensures { result ≡ 1 + spanned children (drop (at + 1) spans.now) }
 {
     let mut span = 1u16;
+    // No fold: tried, and its closure could not show that each sum fits, which is known by what the loop keeps.
     for _k in 0..children {
         let child = spans.get(at + usize::from(span));
         span += child.copied().unwrap_or(0);

@@ -26,6 +26,7 @@ pub fn store(pools: &mut Pools<'_>, parcel: &[u8], drafts: &[Draft])
     ensures entry { Gains pools.old.columns (record { root = pools.old.nodes.mark } ∷ []) pools.new.columns }
     ensures shown { (s : Shelf) (slip : ℕ) → Accepted pools.old slip s parcel.now drafts.now → Shows (store_of pools.new) (filed_on s (parcel_read s.buffers parcel.now)) }
 {
+    // As long as a column can have nodes, since the shelf has no heap.
     let mut table = [0; 256];
     let spans = &mut table[..drafts.len()];
     fill_spans(spans, drafts);
