@@ -27,8 +27,10 @@ struct Case<'a> {
 // The numbers of 32 bits that the bytes begin with; 0 for those that are not there.
 fn numbers(bytes: &[u8]) -> [usize; NUMBERS] {
     let mut numbers = [0; NUMBERS];
-    for (number, four) in numbers.iter_mut().zip(bytes.chunks_exact(4)) {
-        *number = u32::from_be_bytes([four[0], four[1], four[2], four[3]]) as usize;
+    let (words, _) = bytes.as_chunks::<4>();
+    for (number, word) in numbers.iter_mut().zip(words) {
+        // `as`, since `usize` has no `From<u32>`
+        *number = u32::from_be_bytes(*word) as usize;
     }
     numbers
 }
@@ -37,17 +39,14 @@ fn numbers(bytes: &[u8]) -> [usize; NUMBERS] {
 fn split_case<'a>(input: &'a [u8]) -> Option<(Case<'a>, &'a [u8])>
     ensures { IfSome result (λ split. length split.1.now < length input.now) }
 {
-    if input.len() < 4 * NUMBERS {
-        return None;
-    }
-    let (head, rest) = input.split_at(4 * NUMBERS);
+    let (head, rest) = input.split_at_checked(4 * NUMBERS)?;
     let [a, b, c, d, e, f, g, h, i, j, k, text, stream] = numbers(head);
     let (stream, after) = rest.split_at(stream.min(rest.len()));
     let lengths = [a, b, c, d, e, f, g, h, i, j, k, text];
     Some((Case { lengths, stream }, after))
 }
 
-// The vectors are written out, one for each kind of entry.
+// One vector for each kind of entry: they have no common type to go over.
 fn run_case<W: Write>(heap: Global, case: Case<'_>, out: &mut W) -> io::Result<()> {
     let [
         columns,

@@ -59,6 +59,7 @@ impl Denial {
         }
     }
 
+    // `as`, since `u64` has no `From<usize>`.
     pub fn detail(self) -> u64
         ensures { result ≡ detail_of (said self) }
     {

@@ -3,33 +3,32 @@ ghost use Rattle.std.specs.Prelude.{◌≡◌, ℕ, ◌+◌, ◌-◌, ◌*◌, �
 ghost use Rattle.formats.specs.Spelled.{digit_of, capped, lifted, digits_from};
 ghost use Rattle.columns.specs.Format.{decimal as decimal_of};
 
+// A size is at most so high.
+const MOST_SIZE: u32 = 2_147_483_647;
+
 // The value of a digit.
 fn digit(letter: char) -> Option<u32>
     ensures { result ≡ digit_of letter }
 {
+    // by itself, so that the loop below is told of digits as the theory spells them
     letter.to_digit(10)
 }
 
-// A number that is not above 2,147,483,647.
+// A number that is not above the highest size.
 fn cap(n: u64) -> Option<u32>
     ensures { result ≡ capped n }
 {
-    if n <= 2147483647 {
-        Some(n as u32)
-    } else {
-        None
-    }
+    u32::try_from(n).ok().filter(|n| *n <= MOST_SIZE)
 }
 
-// The number whose first digits come to `first`, and whose other digits these are.
-fn follow(rest: &[u8], first: u32) -> Option<u32>
-    requires { first ≤ 2147483647 }
-    ensures { result ≡ digits_from rest.now first }
+// The number that the digits come to.
+fn value(digits: &[u8]) -> Option<u32>
+    ensures { result ≡ digits_from digits.now 0 }
 {
-    let mut n = first;
-    for b in rest {
+    let mut n = 0;
+    for b in digits {
         let d = digit(char::from(*b))?;
-        n = cap(10 * n as u64 + d as u64)?;
+        n = cap(10 * u64::from(n) + u64::from(d))?;
     }
     Some(n)
 }
@@ -40,8 +39,8 @@ pub fn number(digits: &[u8]) -> Option<u32>
 {
     match digits {
         [] => None,
-        [_] => follow(digits, 0),
+        [_] => value(digits),
         [b'0', ..] => None,
-        _ => follow(digits, 0),
+        _ => value(digits),
     }
 }

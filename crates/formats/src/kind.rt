@@ -5,6 +5,7 @@ ghost use Rattle.formats.specs.Spelled.{format_meant};
 
 use crate::format::{Format, Width};
 
+// `wide` as in `Format`.
 #[derive(Clone, Copy, PartialEq, Eq, Debug, Default)]
 pub enum Kind {
     Primitive(Width),

@@ -85,6 +85,7 @@ pub fn child_role(format: Format, rows: u32, k: u8) -> Role
     }
 }
 
+// The levels and the role are no struct: a child has one level less, and its role by its place and its parent's format.
 // The child count is right, no mask is forbidden, the node fits its parent, and no limit is passed.
 pub fn allowed(levels: u8, role: Role, format: Format, h: Head, nodes: usize) -> bool
     ensures { result ≡ allowed_meant levels (role_of role) (format_meant format.entry) h.masked h.children h.rows nodes }

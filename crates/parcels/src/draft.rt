@@ -27,7 +27,8 @@ pub enum Role {
     Free,
 }
 
-// A node's buffers: where they lie, and where the data buffers start, with their count.
+// A node's buffers: where they lie, and where the data buffers start, with their count. A first buffer or a text that is not
+// sent is an empty part and no `None`, as the rules read it: no byte.
 #[derive(Clone, Copy, PartialEq, Eq, Debug, Default)]
 pub struct Parts {
     pub mask: Option<Part>,
@@ -36,7 +37,8 @@ pub struct Parts {
     pub lent: Part,
 }
 
-// Which buffers a node sends after its mask: a first one, a text buffer, data buffers.
+// Which buffers a node sends after its mask: a first one, a text buffer, data buffers. Each of the eight sets could be, so an enum
+// would be no plainer.
 #[derive(Clone, Copy, PartialEq, Eq, Debug)]
 pub struct Sends {
     pub body: bool,

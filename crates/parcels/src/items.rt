@@ -1,4 +1,5 @@
-// The items of a parcel, one after another.
+// The items of a parcel, one after another. Each method says where it is denied, in a clause of its own: an error type of the
+// reader with its one case, `Ends`, would still leave the place to be told.
 ghost use Rattle.std.specs.Prelude.{◌≡◌, ℕ, ◌+◌, ◌<◌, ◌≤◌, List, length, take, drop, Some, None, Ok, Err};
 ghost use Rattle.columns.specs.Sent.{buffer_length};
 ghost use Rattle.columns.specs.Sent.{buffer as bufferRead};
@@ -15,6 +16,7 @@ use pools::records::Part;
 const MASKED: u8 = 1 << 7;
 
 // The length that stands before a buffer: the number in four bytes, the highest first.
+// The length that a buffer or a data buffer begins with. `as`, since `usize` has no `From<u32>`.
 pub fn length_of(ahead: &[u8]) -> Option<usize>
     ensures { elim result [
       | Some n ↦ (4 ≤ length ahead.now) × (n ≡ buffer_length ahead.now) × (n < 4294967296)

@@ -22,7 +22,7 @@ impl Reader<'_> {
         ensures kept { Kept self.old self.new }
         ensures inside { elim result [ Ok x ↦ MaskWithin self.old.parcel.now x × ((or_empty x).len < 4294967296) | Err d ↦ d ≡ Denial.Ends self.new.place.at ] }
     {
-        // not `wanted.then(|| self.buffer())`: what `then` promises leaves open what becomes of the reader
+        // `wanted.then(|| self.buffer())` was tried: what `then` promises leaves open what becomes of the reader
         if wanted {
             Ok(Some(self.buffer()?))
         } else {
@@ -63,7 +63,8 @@ impl Reader<'_> {
         Ok(())
     }
 
-    // A 16-bit count and its data buffers: where they start, and how many.
+    // A 16-bit count and its data buffers: where they start, and how many. Whether they are sent is told by the format, as in
+    // `buffer_if`.
     fn lent_if(&mut self, wanted: bool) -> Result<Part, Denial>
         ensures reads { (bs : List (List ℕ)) → elim result [
           | Ok x ↦ LentAs self.old.parcel.now self.old.place bs x self.new.place (data_buffers wanted (stands self.old bs))

@@ -1,6 +1,6 @@
 // Entries of pools 1 to 11, the pair slip being the last.
 ghost use Rattle.std.specs.Prelude.{◌≡◌};
-ghost use Rattle.pools.specs.Marked.{entries, listed};
+ghost use Rattle.pools.specs.Marked.{listed};
 
 use crate::pools::Marks;
 

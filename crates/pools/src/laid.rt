@@ -19,6 +19,7 @@ pub trait Laid: Copy {
         ensures { result ≡ told bytes.now };
 }
 
+// The widths have an impl each, since no trait of the library has `from_le_bytes`.
 impl Laid for u16 {
     const SIZE: usize = 2;
 
@@ -27,7 +28,7 @@ impl Laid for u16 {
     ghost told = { number_in 2 };
 
     fn first_of(bytes: &[u8]) -> u16 {
-        u16::from_le_bytes([bytes[0], bytes[1]])
+        u16::from_le_bytes(*bytes.first_chunk().unwrap())
     }
 }
 
@@ -39,7 +40,7 @@ impl Laid for u32 {
     ghost told = { number_in 4 };
 
     fn first_of(bytes: &[u8]) -> u32 {
-        u32::from_le_bytes([bytes[0], bytes[1], bytes[2], bytes[3]])
+        u32::from_le_bytes(*bytes.first_chunk().unwrap())
     }
 }
 
@@ -51,9 +52,7 @@ impl Laid for u64 {
     ghost told = { number_in 8 };
 
     fn first_of(bytes: &[u8]) -> u64 {
-        u64::from_le_bytes([
-            bytes[0], bytes[1], bytes[2], bytes[3], bytes[4], bytes[5], bytes[6], bytes[7],
-        ])
+        u64::from_le_bytes(*bytes.first_chunk().unwrap())
     }
 }
 

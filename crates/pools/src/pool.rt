@@ -1,7 +1,7 @@
-// One make of pool for every kind of entry: a lent slice, used up to a mark that only rises. It is no `Vec`, since the shelf has no
-// heap. That the mark is in range is no invariant of the type: a fresh shelf takes pools with any mark, and sets it to 0.
-ghost use Rattle.std.specs.Prelude.{◌≡◌, ◌+◌, ◌-◌, ◌<◌, ◌≤◌, min, ◌&&◌, [], ◌∷◌, length, nat_le, slice_index_or, slice_set};
-ghost use borrow.Rule.Slice.PartMut.{put_mid};
+// One make of pool for every kind of entry: a lent slice, used up to a mark that only rises. It is no `Vec`, since the shelf has
+// no heap. That the mark is in range is no invariant of the type, which would ask it of whoever lends: a fresh shelf takes pools
+// with any mark, and sets it to 0.
+ghost use Rattle.std.specs.Prelude.{◌≡◌, ◌+◌, ◌-◌, ◌<◌, ◌≤◌, min, ◌&&◌, [], ◌∷◌, length, nat_le, slice_index_or};
 ghost use Rattle.pools.specs.Grown.{most_entries};
 ghost use Rattle.pools.specs.Kept.{Standing};
 ghost use Rattle.pools.specs.Parts.{part_of, Inside};

@@ -37,8 +37,8 @@ pub struct Marks {
     pub buffers: usize,
 }
 
-// Field by field, as in the methods of `Pools` below: no derive makes a sum, and pools of different entries have no common type to
-// go over.
+// Field by field, as in the methods of `Pools` below: no derive makes a sum, and pools of different entries have no common type
+// to go over.
 impl Add for Marks {
     type Output = Marks;
 

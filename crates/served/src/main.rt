@@ -8,13 +8,14 @@ use shelf::owner::Shelf;
 use std::io;
 use wire::serve::serve;
 
-// Each pool has so many entries. The arrays are written out, one for each kind of entry.
+// Each pool has so many entries.
 const ENTRIES: usize = 2_048;
 
 // `read` writes a row's text into a buffer of so many bytes.
 const TEXT_BYTES: usize = 4_096;
 
 fn main(rt: HostRuntime) -> io::Result<()> {
+    // one array for each kind of entry: they have no common type to go over
     let mut columns = [ColumnEntry::default(); ENTRIES];
     let mut nodes = [Node::default(); ENTRIES];
     let mut bytes = [0u8; ENTRIES];

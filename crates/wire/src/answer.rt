@@ -13,10 +13,10 @@ pub enum Answer {
     Filed(u32),
     // the number of the column that was made
     Made(u32),
-    // a row was read: so many bytes at the front of the text buffer
+    // a row was read: so many bytes at the front of the text buffer, which is lent with each call
     Row(usize),
-    // the call was denied, by this number and with this detail: two plain numbers, since a `Denial` here would ask of
-    // whoever has a line written that the shelf denies with them
+    // the call was denied, by this number and with this detail: two plain numbers, since with a `Denial` here `line` would take
+    // fewer answers than it does
     No { number: u8, detail: u64 },
     Halt,
 }

@@ -14,8 +14,8 @@ pub(crate) enum Kind {
     Read,
 }
 
-// The number of 16 bits that begins at byte `at`, most significant first. Each width has its own function, since no trait has
-// `from_be_bytes`.
+// The number of 16 bits that begins at byte `at`, most significant first. A trait for the two widths would be longer than the
+// two functions.
 fn u16_at(input: &[u8], at: usize) -> u16
     requires { at + 2 ≤ length input.now }
     ensures { result ≡ u16_at input.now at }
@@ -37,11 +37,14 @@ fn columns_in(heap: Global, bytes: &[u8]) -> Result<Vec<u32>, AllocError>
     ensures { IfOk result (λ v. v.items ≡ map (λ entry. u32_at entry 0) (first_chunks 4 (length bytes.now / 4) bytes.now)) }
 {
     let (entries, _) = bytes.as_chunks::<4>();
-    entries.iter().map(|entry| u32_at(entry, 0)).collect(heap)
+    entries
+        .iter()
+        .map(|entry| u32::from_be_bytes(*entry))
+        .collect(heap)
 }
 
-// The pairs that fill these bytes. One generic function for columns and pairs would be no plainer: these two lines, and clauses on
-// the closure that it is given.
+// The pairs that fill these bytes. One generic function for columns and pairs would be no plainer: these two lines, and clauses
+// on the closure that it is given.
 fn pairs_in(heap: Global, bytes: &[u8]) -> Result<Vec<(u16, u32)>, AllocError>
     ensures { IfOk result (λ v. v.items ≡ map (λ entry. pair_at entry 0) (first_chunks 6 (length bytes.now / 6) bytes.now)) }
 {

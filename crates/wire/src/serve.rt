@@ -17,7 +17,7 @@ pub trait Service {
 }
 
 // Reads the bytes of one call to the front of `held`, and no more; answers how many it has read when the call is whole,
-// when no call begins so, or when the input ends.
+// when no call begins so, or when the input ends. The bytes are an array, since so the limit of a call stands in the type.
 pub fn read_call<R: Read>(input: &mut R, held: &mut [u8; MOST_BYTES]) -> io::Result<usize>
     ensures { IfOk result (λ n. (n ≤ 65536) × OneCall (take n held.new)) }
 {

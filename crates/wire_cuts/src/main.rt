@@ -72,7 +72,7 @@ fn show_cut(rt: &HostRuntime, cut: &[u8]) -> io::Result<()> {
     rt.stdout().write_all(lines.as_slice())
 }
 
-// How far a call reaches, as a word and a number.
+// How far a call reaches, as a word and a number: in these words, which the output keeps, no derive prints it.
 #[derive(Drop)]
 struct Reach(Result<usize, Unread>);
 
