@@ -9,6 +9,7 @@ use Rattle.pools.specs.declared.records.Part.{Part}
 use Rattle.pools.specs.declared.pool.Pool.{Pool}
 use Rattle.pools.specs.Used.{Fit, Gains}
 use Rattle.soundness.specs.declared.sent.DataBuffer.{DataBuffer}
+use Rattle.soundness.specs.declared.data_buffers.DataBuffers.{DataBuffers}
 use Rattle.parcels.specs.declared.sent.Sent.TheVariants.{Named}
 use Rattle.parcels.specs.Lent.{readable, data_from, brought_from}
 use Rattle.parcels.specs.Sents.{SentAt}
@@ -59,13 +60,11 @@ pub record Bringing (parcel : List ℕ) (y y' : Pool ℕ) (p p' : Pool Part) (al
   pub told : AllByRecursion (Told parcel) rest
   pub adding : Adding y y' p p' all (brought_in parcel rest)
 
-pub bringing_start : (parcel : List ℕ) (y : Pool ℕ) (p : Pool Part) (lent : Part) (rest : List DataBuffer) → rest ≡ buffers_from parcel lent.start lent.len → readable parcel lent.start lent.len ≡ true
-    → Fit p (length (brought_from parcel lent.start lent.len)) → Fit y (length (flat (brought_from parcel lent.start lent.len)))
-    → Bringing parcel y y p p (brought_from parcel lent.start lent.len) rest
-bringing_start parcel y p lent rest e r f g =
-    let all : List (List ℕ) = brought_from parcel lent.start lent.len in
-    subst (λ (bs : List DataBuffer). Bringing parcel y y p p all bs) (sym e)
-    (record {
-      told = buffers_told parcel lent.start lent.len r;
-      adding = subst (Adding y y p p all) (brought_is parcel lent.start lent.len) (record { shelved = f; held = g; then = λ z q u v. (u, v) });
-    })
+pub bringing_start : (lent : DataBuffers) (y : Pool ℕ) (p : Pool Part) → Fit p (length (brought_from lent.parcel.now lent.at lent.left)) → Fit y (length (flat (brought_from lent.parcel.now lent.at lent.left)))
+    → Bringing lent.parcel.now y y p p (brought_from lent.parcel.now lent.at lent.left) (buffers_from lent.parcel.now lent.at lent.left)
+bringing_start lent y p f g =
+    let all : List (List ℕ) = brought_from lent.parcel.now lent.at lent.left in
+    record {
+      told = buffers_told lent.parcel.now lent.at lent.left lent.listed;
+      adding = subst (Adding y y p p all) (brought_is lent.parcel.now lent.at lent.left) (record { shelved = f; held = g; then = λ z q u v. (u, v) });
+    }

@@ -43,11 +43,11 @@ laying_end {X} {Y} {R} {told} {size} {p} {q} zero rest h s = s.then q [] tt (gro
 laying_end {X} {Y} {R} {told} {size} (suc m) rest h s = absurd (omega (arith, h (omega arith), s.filled, mul-add size 1 m))
 
 -- What was made of entries that are told by their own bytes alone, each the same as its entry, is the entries.
-pub made_same : {X : Type 0} (p q : Pool X) (told : List ℕ → X) (size n : ℕ) (bytes body : List ℕ) → bytes ≡ body → ((b : List ℕ) → told (take size b) ≡ told b)
-    → (new : List X) × AllZip (λ x y. y ≡ x) (entries_in (λ b. told (take size b)) size n bytes) new × Gains p new q → Gains p (entries_in told size n body) q
-made_same {X} p q told size n bytes body e alone h =
-    let same : entries_in (λ b. told (take size b)) size n bytes ≡ entries_in told size n body = λ i. entries_in (λ b. alone b i) size n (e i) in
-    subst (λ (new : List X). Gains p new q) (each_same (entries_in (λ b. told (take size b)) size n bytes) h.0 h.1 ∙ same) h.2
+pub made_same : {X : Type 0} (p q : Pool X) (told : List ℕ → X) (size : ℕ) {m n : ℕ} {bytes body : List ℕ} → m ≡ n → bytes ≡ body → ((b : List ℕ) → told (take size b) ≡ told b)
+    → (new : List X) × AllZip (λ x y. y ≡ x) (entries_in (λ b. told (take size b)) size m bytes) new × Gains p new q → Gains p (entries_in told size n body) q
+made_same {X} p q told size {m} {n} {bytes} {body} k e alone h =
+    let same : entries_in (λ b. told (take size b)) size m bytes ≡ entries_in told size n body = λ i. entries_in (λ b. alone b i) size (k i) (e i) in
+    subst (λ (new : List X). Gains p new q) (each_same (entries_in (λ b. told (take size b)) size m bytes) h.0 h.1 ∙ same) h.2
 
 pub number_alone : (w : ℕ) (b : List ℕ) → number_in w (take w b) ≡ number_in w b
 number_alone w b = ap little_endian (take-take w w b (omega arith))

@@ -1,7 +1,7 @@
 // How a node's buffers are taken, by its kind.
 ghost use Rattle.std.specs.Prelude.{◌≡◌};
 ghost use Rattle.pools.specs.Marked.{marks_of};
-ghost use Rattle.parcels.specs.Reads.{within, Within};
+ghost use Rattle.parcels.specs.Reads.{within};
 ghost use Rattle.filing.specs.Plans.{place_in};
 ghost use Rattle.filing.specs.News.{Filled, plan_in};
 ghost use Rattle.filing.specs.Bodies.{BodyRoom, BodyGained};
@@ -12,15 +12,16 @@ use formats::kind::Kind;
 use parcels::draft::Draft;
 use pools::pools::Pools;
 use pools::records::{Part, View};
+use soundness::node::SentNode;
 
-// The part that is taken byte by byte.
-pub(crate) fn plain_part(draft: Draft) -> Part
-    ensures { result ≡ (plan_in draft).plain }
+// What is taken byte by byte.
+pub(crate) fn plain_bytes<'a>(node: SentNode<'a>) -> &'a [u8]
+    ensures { result.now ≡ within node.entry.parcel.now (plan_in node.entry.draft).plain }
 {
-    match draft.kind {
-        Kind::Primitive(Width::One) | Kind::Boolean => draft.parts.body,
-        Kind::Text { .. } => draft.parts.text,
-        _ => Part::default(),
+    match node.draft.kind {
+        Kind::Primitive(Width::One) | Kind::Boolean => node.body(),
+        Kind::Text { .. } => node.draft.parts.text.of(node.parcel),
+        _ => &[],
     }
 }
 
@@ -36,16 +37,15 @@ pub(crate) fn listed_part(draft: Draft) -> Part
 
 // Adds what a node's body holds to the pool that its kind has for it, and says where it starts. Bytes and bits start at
 // `plain`, where they were copied.
-pub(crate) fn put_body(pools: &mut Pools<'_>, parcel: &[u8], draft: Draft, plain: usize) -> usize
-    requires room { BodyRoom pools.old (plan_in draft) }
-    requires inside { Within parcel.now draft.parts.body }
-    requires filled { Filled draft }
-    ensures gained { BodyGained pools.old (plan_in draft) (within parcel.now draft.parts.body) pools.new }
-    ensures start { result ≡ place_in draft.kind plain (marks_of pools.old) }
+pub(crate) fn put_body(pools: &mut Pools<'_>, node: SentNode<'_>, plain: usize) -> usize
+    requires room { BodyRoom pools.old (plan_in node.draft) }
+    requires filled { Filled node.draft }
+    ensures gained { BodyGained pools.old (plan_in node.entry.draft) (within node.entry.parcel.now node.entry.draft.parts.body) pools.new }
+    ensures start { result ≡ place_in node.entry.draft.kind plain (marks_of pools.old) }
 {
-    let body = draft.parts.body.of(parcel);
-    let rows = draft.head.rows as usize;
-    match draft.kind {
+    let body = node.body();
+    let rows = node.rows();
+    match node.draft.kind {
         Kind::Primitive(Width::One) | Kind::Boolean => plain,
         Kind::Primitive(Width::Two) => put_entries::<u16, u16>(&mut pools.shorts, body, rows),
         Kind::Primitive(Width::Four) => put_entries::<u32, u32>(&mut pools.words, body, rows),

@@ -2,14 +2,13 @@
 ghost use Rattle.std.specs.Prelude.{◌≡◌, ◌+◌, length};
 ghost use Rattle.pools.specs.Used.{Fit, Gains};
 ghost use Rattle.parcels.specs.Reads.{MaskWithin};
-ghost use Rattle.parcels.specs.Drafts.{Drafted};
 ghost use Rattle.filing.specs.Masks.{mask_len, mask_sent, mask_at};
 ghost use Rattle.filing.specs.News.{own_bytes, plan_in};
 
-use crate::body::plain_part;
-use parcels::draft::Draft;
+use crate::body::plain_bytes;
 use pools::pool::Pool;
 use pools::records::Part;
+use soundness::node::SentNode;
 
 // Where what is taken of a node as it is lies: its format, its mask if there is one, and one part more.
 #[derive(Clone, Copy)]
@@ -45,17 +44,16 @@ fn copy_mask(bytes: &mut Pool<'_, u8>, parcel: &[u8], mask: Option<Part>) -> Opt
 }
 
 // Adds a node's format, its mask, and the part that is taken as it is.
-pub(crate) fn copy_parts(bytes: &mut Pool<'_, u8>, parcel: &[u8], draft: Draft) -> Copied
-    requires room { Fit bytes.old (length (own_bytes parcel.now draft)) }
-    requires drafted { Drafted parcel.now draft }
-    ensures added { Gains bytes.old (own_bytes parcel.now draft) bytes.new }
-    ensures format { result.format ≡ record { start = bytes.old.mark; len = draft.head.format.len } }
-    ensures mask { result.mask ≡ mask_at draft.parts.mask (bytes.old.mark + draft.head.format.len) }
-    ensures plain { result.plain ≡ record { start = bytes.old.mark + draft.head.format.len + mask_len draft.parts.mask; len = (plan_in draft).plain.len } }
+pub(crate) fn copy_parts(bytes: &mut Pool<'_, u8>, node: SentNode<'_>) -> Copied
+    requires { Fit bytes.old (length (own_bytes node.parcel.now node.draft)) }
+    ensures added { Gains bytes.old (own_bytes node.entry.parcel.now node.entry.draft) bytes.new }
+    ensures format { result.format ≡ record { start = bytes.old.mark; len = node.entry.draft.head.format.len } }
+    ensures mask { result.mask ≡ mask_at node.entry.draft.parts.mask (bytes.old.mark + node.entry.draft.head.format.len) }
+    ensures plain { result.plain ≡ record { start = bytes.old.mark + node.entry.draft.head.format.len + mask_len node.entry.draft.parts.mask; len = (plan_in node.entry.draft).plain.len } }
 {
     Copied {
-        format: copy_part(bytes, draft.head.format.of(parcel)),
-        mask: copy_mask(bytes, parcel, draft.parts.mask),
-        plain: copy_part(bytes, plain_part(draft).of(parcel)),
+        format: copy_part(bytes, node.draft.head.format.of(node.parcel)),
+        mask: copy_mask(bytes, node.parcel, node.draft.parts.mask),
+        plain: copy_part(bytes, plain_bytes(node)),
     }
 }

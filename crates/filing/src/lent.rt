@@ -12,6 +12,9 @@ use pools::records::Part;
 use soundness::data_buffers::DataBuffers;
 
 // Adds the numbers of a node's data buffers, new ones being numbered from `first` on, and says where they lie.
+// The list is a part, not its `DataBuffers`: that a number has 32 bits is known by the parcel's bytes, and the check tells what
+// each byte of a slice is where the slice is a parameter, but not where it is a field (tried by value, and with the field named
+// before the loop).
 pub(crate) fn put_numbers(
     lists: &mut Pool<'_, u32>,
     parcel: &[u8],
@@ -45,16 +48,15 @@ pub(crate) fn put_numbers(
 pub(crate) fn put_brought(
     bytes: &mut Pool<'_, u8>,
     buffers: &mut Pool<'_, Part>,
-    parcel: &[u8],
-    lent: Part,
+    lent: DataBuffers<'_>,
 )
-    requires inside { readable parcel.now lent.start lent.len ≡ true }
-    requires shelved { Fit buffers.old (length (brought_from parcel.now lent.start lent.len)) }
-    requires held { Fit bytes.old (length (flat (brought_from parcel.now lent.start lent.len))) }
-    ensures bytes { Gains bytes.old (flat (brought_from parcel.now lent.start lent.len)) bytes.new }
-    ensures buffers { Gains buffers.old (parts_from bytes.old.mark (brought_from parcel.now lent.start lent.len)) buffers.new }
+    requires shelved { Fit buffers.old (length (brought_from lent.parcel.now lent.at lent.left)) }
+    requires held { Fit bytes.old (length (flat (brought_from lent.parcel.now lent.at lent.left))) }
+    ensures bytes { Gains bytes.old (flat (brought_from lent.entry.parcel.now lent.entry.at lent.entry.left)) bytes.new }
+    ensures buffers { Gains buffers.old (parts_from bytes.old.mark (brought_from lent.entry.parcel.now lent.entry.at lent.entry.left)) buffers.new }
 {
-    for buffer in DataBuffers::of(parcel, lent) {
+    let parcel = lent.parcel;
+    for buffer in lent {
         if let Sent::Brought(len) = buffer.sent {
             let brought = Part {
                 start: buffer.at + 4,

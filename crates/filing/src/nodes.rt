@@ -9,6 +9,7 @@ ghost use Rattle.filing.specs.Filed.{Fits, Filed, takes_all};
 use crate::node::put_node;
 use parcels::draft::Draft;
 use pools::pools::Pools;
+use soundness::node::SentNode;
 
 // Adds each draft in turn, with the number of nodes of its subtree.
 pub(crate) fn put_nodes(pools: &mut Pools<'_>, parcel: &[u8], drafts: &[Draft], spans: &[u16])
@@ -20,6 +21,10 @@ pub(crate) fn put_nodes(pools: &mut Pools<'_>, parcel: &[u8], drafts: &[Draft], 
     ensures { Filed pools.old pools.new parcel.now drafts.now spans.now }
 {
     for (draft, span) in drafts.iter().zip(spans) {
-        put_node(pools, parcel, *draft, *span);
+        let node = SentNode {
+            parcel,
+            draft: *draft,
+        };
+        put_node(pools, node, *span);
     }
 }

@@ -22,7 +22,7 @@ impl<'a> SentNode<'a> {
     }
 
     // Its first buffer after the mask.
-    pub(crate) fn body(self) -> &'a [u8]
+    pub fn body(self) -> &'a [u8]
         ensures { result.now ≡ within self.entry.parcel.now self.entry.draft.parts.body }
     {
         self.draft.parts.body.of(self.parcel)

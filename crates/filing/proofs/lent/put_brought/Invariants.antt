@@ -6,4 +6,4 @@ use Rattle.filing.proofs.lent.put_brought.Given as goal
 abbrev pub invariant-loop-buffer : goal.invariant-loop-buffer
 invariant-loop-buffer l =
     let it = l.buffer-iterator in
-    Bringing l.parcel l.initial.bytes l.bytes l.initial.buffers l.buffers (brought_from l.parcel l.fn.lent.start l.fn.lent.len) (buffers_from it.parcel.now it.at it.left)
+    Bringing l.fn.lent.parcel.now l.initial.bytes l.bytes l.initial.buffers l.buffers (brought_from l.fn.lent.parcel.now l.fn.lent.at l.fn.lent.left) (buffers_from it.parcel.now it.at it.left)
