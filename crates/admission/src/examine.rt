@@ -17,6 +17,7 @@ use pools::entries::Entries;
 use pools::records::Part;
 use pools::room::full_pool;
 use soundness::ladder::first_denied;
+use soundness::node::SentNodes;
 use soundness::shelved::Shelved;
 
 // The first denial that a parcel meets: as it is read, then by node, then for want of room. Else its nodes are drafted,
@@ -38,10 +39,13 @@ pub fn examine(
     ] }
 {
     let nodes = outline(parcel, drafts)?;
-    let drafted = &drafts[0..nodes];
+    let sent = SentNodes {
+        parcel,
+        drafts: &drafts[0..nodes],
+    };
     let shelved = Shelved { bytes, buffers };
-    first_denied(parcel, shelved, drafted)?;
-    let needed = needs(parcel, drafted);
+    first_denied(sent, shelved)?;
+    let needed = needs(sent);
     if let Some(pool) = full_pool(&lengths, &marks, &needed) {
         return Err(Denial::Full(pool));
     }

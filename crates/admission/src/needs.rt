@@ -3,19 +3,17 @@ ghost use Rattle.std.specs.Prelude.{◌≡◌, ℕ, ◌+◌, ◌-◌, ◌*◌, �
 ghost use Rattle.std.specs.List.{AllByRecursion};
 ghost use Rattle.columns.specs.Pools.{plus, one_column, sum_of};
 ghost use Rattle.parcels.specs.Lent.{brought_from};
-ghost use Rattle.parcels.specs.Drafts.{Drafted};
 ghost use Rattle.pools.specs.Marked.{listed};
 ghost use Rattle.admission.specs.Needs.{needed, mask_need, width_entries, kind_entries, draft_entries, drafts_need};
 
 use formats::format::Width;
 use formats::kind::Kind;
-use parcels::draft::Draft;
 use parcels::sent::Sent;
 use pools::entries::Entries;
 use pools::pools::Marks;
 use pools::records::Part;
 use soundness::data_buffers::DataBuffers;
-use soundness::node::SentNode;
+use soundness::node::{SentNode, SentNodes};
 use soundness::values::bit_bytes;
 
 // The data buffers that a node brings: how many, and how many bytes they have.
@@ -136,17 +134,17 @@ fn draft_needs(node: SentNode<'_>) -> Marks
 }
 
 // What the drafts of a parcel need, and one column.
-pub(crate) fn needs(parcel: &[u8], drafts: &[Draft]) -> Entries
-    requires { (AllByRecursion (Drafted parcel.now) drafts.now) × (length drafts.now ≤ 256) }
-    ensures { listed result ≡ plus one_column (drafts_need parcel.now drafts.now) }
+pub(crate) fn needs(nodes: SentNodes<'_>) -> Entries
+    requires { length nodes.drafts.now ≤ 256 }
+    ensures { listed result ≡ plus one_column (drafts_need nodes.entry.parcel.now nodes.entry.drafts.now) }
 {
     let mut total = Marks {
         columns: 1,
         ..Marks::default()
     };
-    for draft in drafts {
+    for draft in nodes.drafts {
         let node = SentNode {
-            parcel,
+            parcel: nodes.parcel,
             draft: *draft,
         };
         total = total + draft_needs(node);

@@ -15,6 +15,7 @@ use filing::store::store;
 use parcels::draft::Draft;
 use pools::entries::Entries;
 use pools::pools::Pools;
+use soundness::node::SentNodes;
 
 // Files a parcel: the number of its column, or why it is denied, and then the pools are as they were. No pool gets longer or
 // shorter.
@@ -41,7 +42,11 @@ fn file_into(pools: &mut Pools<'_>, slip: usize, parcel: &[u8]) -> Result<u32, D
         &mut drafts,
     )?;
     let column = pools.columns.mark as u32;
-    store(pools, parcel, &drafts[..accepted.nodes]);
+    let nodes = SentNodes {
+        parcel,
+        drafts: &drafts[..accepted.nodes],
+    };
+    store(pools, nodes);
     Ok(column)
 }
 

@@ -90,6 +90,9 @@ drafted_prop parcel d = λ a b i.
       offsets = ℕ_set _ _ a.offsets b.offsets i;
     }
 
+pub all_drafted_prop : (parcel : List ℕ) (ds : List Draft) → IsProp (AllByRecursion (Drafted parcel) ds)
+all_drafted_prop parcel ds = AllByRecursion-prop (Drafted parcel) (drafted_prop parcel) ds
+
 pub shelved_prop : (bytes : List ℕ) (buffers : List Part) → IsProp (AllByRecursion (Within bytes) buffers)
 shelved_prop bytes buffers = AllByRecursion-prop (Within bytes) (λ p. le_prop) buffers
 

@@ -1,19 +1,17 @@
 // The checks that wait until the whole parcel is read, node by node.
 ghost use Rattle.std.specs.Prelude.{◌≡◌, ℕ, length};
-ghost use Rattle.std.specs.List.{AllByRecursion};
 ghost use Rattle.columns.specs.Checks.{first_denial};
 ghost use Rattle.formats.specs.Spelled.{lifted};
 ghost use Rattle.pools.specs.Parts.{buffers_in};
 ghost use Rattle.parcels.specs.Lent.{data_from};
-ghost use Rattle.parcels.specs.Drafts.{Drafted, checks_of};
+ghost use Rattle.parcels.specs.Drafts.{checks_of};
 ghost use Rattle.soundness.specs.Ladder.{beyond_of, unshelved_in, denial_in};
 
 use crate::data_buffers::DataBuffers;
-use crate::node::SentNode;
+use crate::node::{SentNode, SentNodes};
 use crate::shelved::Shelved;
 use crate::sound::sound;
 use denials::Denial;
-use parcels::draft::Draft;
 use parcels::sent::Sent;
 
 // The number by which a data buffer is sent, where no such buffer was shelved before.
@@ -34,13 +32,12 @@ pub(crate) fn missing(mut lent: DataBuffers<'_>, before: usize) -> Option<usize>
 }
 
 // The first denial of the drafts, by node: a data buffer that is not shelved, then unsound.
-pub fn first_denied(parcel: &[u8], shelved: Shelved<'_>, drafts: &[Draft]) -> Result<(), Denial>
-    requires { AllByRecursion (Drafted parcel.now) drafts.now }
-    ensures { first_denial (checks_of parcel.now (length shelved.entry.buffers.now) (buffers_in shelved.entry.bytes.now shelved.entry.buffers.now) 0 drafts.now) ≡ denial_in result }
+pub fn first_denied(nodes: SentNodes<'_>, shelved: Shelved<'_>) -> Result<(), Denial>
+    ensures { first_denial (checks_of nodes.entry.parcel.now (length shelved.entry.buffers.now) (buffers_in shelved.entry.bytes.now shelved.entry.buffers.now) 0 nodes.entry.drafts.now) ≡ denial_in result }
 {
-    for (i, draft) in drafts.iter().enumerate() {
+    for (i, draft) in nodes.drafts.iter().enumerate() {
         let node = SentNode {
-            parcel,
+            parcel: nodes.parcel,
             draft: *draft,
         };
         if let Some(number) = missing(node.lent(), shelved.buffers.len()) {

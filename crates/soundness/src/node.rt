@@ -1,7 +1,8 @@
 ghost use Rattle.std.specs.Prelude.{◌≡◌};
+ghost use Rattle.std.specs.List.{AllByRecursion};
 ghost use Rattle.parcels.specs.Reads.{within};
 ghost use Rattle.parcels.specs.Drafts.{Drafted};
-ghost use Rattle.soundness.specs.Props.{drafted_prop};
+ghost use Rattle.soundness.specs.Props.{drafted_prop, all_drafted_prop};
 
 use crate::data_buffers::DataBuffers;
 use parcels::draft::Draft;
@@ -12,6 +13,14 @@ pub struct SentNode<'a> {
     pub parcel: &'a [u8],
     pub draft: Draft,
     pub ghost drafted: { Drafted parcel.now draft } by { drafted_prop parcel.now draft },
+}
+
+// The nodes of a column as they are sent: their drafts in parcel order, and the parcel that their parts lie in.
+#[derive(Clone, Copy)]
+pub struct SentNodes<'a> {
+    pub parcel: &'a [u8],
+    pub drafts: &'a [Draft],
+    pub ghost drafted: { AllByRecursion (Drafted parcel.now) drafts.now } by { all_drafted_prop parcel.now drafts.now },
 }
 
 impl<'a> SentNode<'a> {

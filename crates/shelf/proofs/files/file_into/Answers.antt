@@ -47,6 +47,9 @@ overflow_cast-column c =
     let h = r.columns.capped in
     omega arith
 
+pub invariant_of-nodes : goal.invariant_of-nodes
+invariant_of-nodes c = record { drafted = c.in_ok-accepted.ensures.drafted.1.drafted }
+
 pub store-requires : goal.store-requires
 store-requires c =
     let p = c.args.pools.now in
@@ -55,7 +58,6 @@ store-requires c =
     let x = c.in_ok-accepted.ensures.drafted in
     record {
       ready = ∥∥₁_elim c.requires (ready_prop p) (λ r. r.1.ready);
-      drafted = x.1.drafted;
       few = omega (arith, length-take c.in_ok-accepted.accepted.nodes c.examine.new.drafts);
       accepted = ∥∥₁_map c.requires (λ r. (
         shelf_of (ledger p slip r.0),
