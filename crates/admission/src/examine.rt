@@ -1,10 +1,8 @@
 // All that is decided of a parcel before anything is stored.
 ghost use Rattle.std.specs.Prelude.{◌≡◌, ℕ, ◌≤◌, List, length, take, Ok, Err};
-ghost use Rattle.std.specs.List.{AllByRecursion};
 ghost use Rattle.columns.specs.Ledger.{Shelf, file_denial};
 ghost use Rattle.columns.specs.Parcel.{parcel_read};
 ghost use Rattle.pools.specs.Parts.{buffers_in};
-ghost use Rattle.parcels.specs.Reads.{Within};
 ghost use Rattle.soundness.specs.Ladder.{denial_in};
 ghost use Rattle.admission.specs.Examine.{Stands, Examined};
 
@@ -14,7 +12,6 @@ use denials::Denial;
 use parcels::draft::Draft;
 use parcels::node::outline;
 use pools::entries::Entries;
-use pools::records::Part;
 use pools::room::full_pool;
 use soundness::ladder::first_denied;
 use soundness::node::SentNodes;
@@ -24,17 +21,15 @@ use soundness::shelved::Shelved;
 // and what they need is told.
 pub fn examine(
     parcel: &[u8],
-    bytes: &[u8],
-    buffers: &[Part],
+    shelved: Shelved<'_>,
     lengths: Entries,
     marks: Entries,
     drafts: &mut [Draft; 256],
 ) -> Result<Accepted, Denial>
-    requires { AllByRecursion (Within bytes.now) buffers.now }
-    ensures answers { (ends : List ℕ) (s : Shelf) → Stands ends s bytes.now buffers.now lengths marks
+    ensures answers { (ends : List ℕ) (s : Shelf) → Stands ends s shelved.entry.bytes.now shelved.entry.buffers.now lengths marks
         → denial_in result ≡ file_denial ends s (parcel_read s.buffers parcel.now) }
     ensures drafted { elim result [
-      | Ok x ↦ (x.nodes ≤ 256) × Examined (buffers_in bytes.now buffers.now) parcel.now (take x.nodes drafts.new) x.needs
+      | Ok x ↦ (x.nodes ≤ 256) × Examined (buffers_in shelved.entry.bytes.now shelved.entry.buffers.now) parcel.now (take x.nodes drafts.new) x.needs
       | Err _ ↦ Unit {0}
     ] }
 {
@@ -43,7 +38,6 @@ pub fn examine(
         parcel,
         drafts: &drafts[0..nodes],
     };
-    let shelved = Shelved { bytes, buffers };
     first_denied(sent, shelved)?;
     let needed = needs(sent);
     if let Some(pool) = full_pool(&lengths, &marks, &needed) {

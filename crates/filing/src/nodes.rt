@@ -13,7 +13,8 @@ use soundness::node::SentNode;
 
 // Adds each draft in turn, with the number of nodes of its subtree.
 // The parcel and the drafts are not one `SentNodes`: that what was added reads back as the node takes bytes below 256, which the
-// check tells of a slice that is a parameter, but not of one that is a field or that a method gives.
+// check tells of a slice that is a parameter, but not of one that is a field or that a method gives. That the drafts are filled is
+// a clause too: a type of a filled node would be made in this loop alone, and be taken apart again where each part is added.
 pub(crate) fn put_nodes(pools: &mut Pools<'_>, parcel: &[u8], drafts: &[Draft], spans: &[u16])
     requires ready { Ready pools.old }
     requires drafted { AllByRecursion (Drafted parcel.now) drafts.now }

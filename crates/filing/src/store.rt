@@ -15,6 +15,7 @@ use pools::records::ColumnEntry;
 use soundness::node::SentNodes;
 
 // Adds the column that the drafts tell, with all that it holds: the pools then show the shelf with the parcel filed.
+// That the pools' marks are in range stays a clause: the pools are the caller's, who may set their marks at any time.
 pub fn store(pools: &mut Pools<'_>, nodes: SentNodes<'_>)
     requires ready { Ready pools.old }
     requires few { length nodes.drafts.now ≤ 256 }

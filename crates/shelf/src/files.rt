@@ -16,6 +16,7 @@ use parcels::draft::Draft;
 use pools::entries::Entries;
 use pools::pools::Pools;
 use soundness::node::SentNodes;
+use soundness::shelved::Shelved;
 
 // Files a parcel: the number of its column, or why it is denied, and then the pools are as they were. No pool gets longer or
 // shorter.
@@ -33,14 +34,11 @@ fn file_into(pools: &mut Pools<'_>, slip: usize, parcel: &[u8]) -> Result<u32, D
     let marks = Entries::from(pools.marks());
     // A table of fixed size, since the shelf has no heap.
     let mut drafts = [Draft::default(); 256];
-    let accepted = examine(
-        parcel,
-        pools.bytes.used(),
-        pools.buffers.used(),
-        lengths,
-        marks,
-        &mut drafts,
-    )?;
+    let shelved = Shelved {
+        bytes: pools.bytes.used(),
+        buffers: pools.buffers.used(),
+    };
+    let accepted = examine(parcel, shelved, lengths, marks, &mut drafts)?;
     let column = pools.columns.mark as u32;
     let nodes = SentNodes {
         parcel,

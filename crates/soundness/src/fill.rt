@@ -35,6 +35,7 @@ fn mask_filled(parcel: &[u8], mask: Option<Part>, rows: usize) -> bool
 }
 
 // The mask and the first buffer have exactly the bytes that the rows take.
+// A bool, not a node of a type of its own: only `sound` tests it, and the two checks that need it follow there at once.
 pub(crate) fn filled(node: SentNode<'_>) -> bool
     ensures exact { result ≡ true → Filled node.entry.draft }
     ensures is { (ds : List Data) → result ≡ fills (kind_in node.entry.parcel.now node.entry.draft) (head_in node.entry.parcel.now node.entry.draft) (sent_of node.entry.parcel.now node.entry.draft.parts ds) }

@@ -14,8 +14,8 @@ pub returns-in_err-first_denied : goal.returns-in_err-first_denied
 returns-in_err-first_denied c =
     let p = err_from_is_err_and c.from_residual-in_err-first_denied.result c.from_residual-in_err-first_denied.ensures.1 in
     let parcel = c.args.parcel.now in
-    let bytes = c.args.bytes.now in
-    let buffers = c.args.buffers.now in
+    let bytes = c.args.shelved.bytes.now in
+    let buffers = c.args.shelved.buffers.now in
     let n = c.in_ok-nodes.nodes in
     let X = c.outline.new.drafts in
     rw (p.1, p.2)
@@ -29,8 +29,8 @@ returns-in_err-first_denied c =
 pub returns-in-Some : goal.returns-in-Some
 returns-in-Some c =
     let parcel = c.args.parcel.now in
-    let bytes = c.args.bytes.now in
-    let buffers = c.args.buffers.now in
+    let bytes = c.args.shelved.bytes.now in
+    let buffers = c.args.shelved.buffers.now in
     let n = c.in_ok-nodes.nodes in
     let X = c.outline.new.drafts in
     let O = c.in_ok-nodes.ensures.reads (buffers_in bytes buffers) in
@@ -46,8 +46,8 @@ returns-in-Some c =
 pub returns : goal.returns
 returns c =
     let parcel = c.args.parcel.now in
-    let bytes = c.args.bytes.now in
-    let buffers = c.args.buffers.now in
+    let bytes = c.args.shelved.bytes.now in
+    let buffers = c.args.shelved.buffers.now in
     let n = c.in_ok-nodes.nodes in
     let X = c.outline.new.drafts in
     let O = c.in_ok-nodes.ensures.reads (buffers_in bytes buffers) in

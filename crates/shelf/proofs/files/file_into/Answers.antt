@@ -22,8 +22,8 @@ used-requires c = (∥∥₁_elim c.requires (ready_prop c.args.pools.now) (λ r
 pub used-requires-2 : goal.used-requires-2
 used-requires-2 c = (∥∥₁_elim c.requires (ready_prop c.args.pools.now) (λ r. r.1.ready)).buffers
 
-pub examine-requires : goal.examine-requires
-examine-requires c = within_bytes c.args.pools.now c.args.slip _ _ c.used.ensures c.used-2.ensures c.requires
+pub invariant_of-shelved : goal.invariant_of-shelved
+invariant_of-shelved c = record { inside = within_bytes c.args.pools.now c.args.slip _ _ c.used.ensures c.used-2.ensures c.requires }
 
 pub returns-in_err-accepted : goal.returns-in_err-accepted
 returns-in_err-accepted c =
