@@ -28,7 +28,7 @@ pub(crate) fn fill_spans(spans: &mut [u16], drafts: &[Draft])
     requires few { AllByRecursion (λ (s : ℕ). s ≤ 256) (spans_of (map children_in drafts.now)) }
     ensures { spans.new ≡ spans_of (map children_in drafts.now) }
 {
-    // By place: a size is written by the sizes after it.
+    // By place, since a size is written by the sizes after it; `enumerate().rev()` would name the draft too and be no plainer.
     for i in (0..drafts.len()).rev() {
         spans[i] = span_at(spans, i, drafts[i].head.children);
     }

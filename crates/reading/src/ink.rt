@@ -18,7 +18,8 @@ fn digit(n: u8) -> u8
     b"0123456789abcdef"[usize::from(n)]
 }
 
-// Byte k of a number, the lowest being byte 0. Past the eight that it has they are 0.
+// Byte k of a number, the lowest being byte 0. Past the eight that it has they are 0, so a number is written by place and not by a
+// slice of its bytes: any width may be asked.
 fn byte_of(value: u64, k: u8) -> u8
     ensures { result ≡ value / 256 ^ k % 256 }
 {

@@ -3,7 +3,7 @@ ghost use Rattle.reading.specs.Inked.{left, marked, lower};
 
 use crate::ink::{Full, Ink};
 
-// A pen writes on in a buffer, from a place on.
+// A pen writes on in a buffer, from a place on. The buffer is lent, since the shelf has no heap.
 #[derive(Drop)]
 pub struct Pen<'a> {
     pub text: &'a mut [u8],

@@ -1,5 +1,5 @@
 // The text of a row, with all that lies below it. Each function says what is written of any column that is stored at the
-// place and can be read there.
+// place and can be read there. That it can be read is asked anew of each place and row, so no type keeps it.
 ghost use Rattle.std.specs.Prelude.{◌≡◌, ◌<◌, not, if◌then◌else◌, [], ◌∷◌, length};
 ghost use Rattle.columns.specs.Column.{Column, Columns};
 ghost use Rattle.columns.specs.Says.{entry};
@@ -18,7 +18,7 @@ use rows::runs::entry_of;
 use rows::tree::{next_child, node_at};
 use rows::values::is_valid;
 
-// A comma before every element but the first.
+// A comma before every element but the first: a function, so that its two branches meet in one clause.
 fn comma<I: Ink>(ink: &mut I, later: bool) -> Result<(), Full>
     ensures { Wrote I.room I.marked ink.old (if later then (44 ∷ []) else []) ink.new result }
 {

@@ -30,7 +30,7 @@ pub fn is_valid(bytes: &Pool<'_, u8>, mask: Option<usize>, row: usize) -> bool
     ensures is { result ≡ mask_bit (used bytes.now) mask row }
     ensures told { (rows : ℕ) (bits : Given (List Bool)) (spare : List Bool) → MaskLies (used bytes.now) mask rows bits spare → row < rows → result ≡ mask_valid bits row }
 {
-    // A match: from `is_none_or` a caller does not learn what `bit_at` says inside the closure.
+    // `is_none_or` was tried: both clauses stayed open, since what it tells of the closure leaves out what `bit_at` told there.
     match mask {
         None => true,
         Some(place) => bit_at(bytes, place, row),
