@@ -1,7 +1,6 @@
 // Parts of a parcel, as they are, into the byte pool.
 ghost use Rattle.std.specs.Prelude.{◌≡◌, ◌+◌, length};
 ghost use Rattle.pools.specs.Used.{Fit, Gains};
-ghost use Rattle.parcels.specs.Reads.{MaskWithin};
 ghost use Rattle.filing.specs.Masks.{mask_len, mask_sent, mask_at};
 ghost use Rattle.filing.specs.News.{own_bytes, plan_in};
 
@@ -33,14 +32,13 @@ pub(crate) fn copy_part(bytes: &mut Pool<'_, u8>, part: &[u8]) -> Part
 }
 
 // Adds a mask's bytes where there is one, and says where.
-fn copy_mask(bytes: &mut Pool<'_, u8>, parcel: &[u8], mask: Option<Part>) -> Option<usize>
-    requires room { Fit bytes.old (mask_len mask) }
-    requires inside { MaskWithin parcel.now mask }
-    ensures added { Gains bytes.old (mask_sent parcel.now mask) bytes.new }
-    ensures lies { result ≡ mask_at mask bytes.old.mark }
+fn copy_mask(bytes: &mut Pool<'_, u8>, node: SentNode<'_>) -> Option<usize>
+    requires { Fit bytes.old (mask_len node.draft.parts.mask) }
+    ensures added { Gains bytes.old (mask_sent node.entry.parcel.now node.entry.draft.parts.mask) bytes.new }
+    ensures lies { result ≡ mask_at node.entry.draft.parts.mask bytes.old.mark }
 {
-    let part = mask?;
-    Some(copy_part(bytes, part.of(parcel)).start)
+    let part = node.draft.parts.mask?;
+    Some(copy_part(bytes, part.of(node.parcel)).start)
 }
 
 // Adds a node's format, its mask, and the part that is taken as it is.
@@ -53,7 +51,7 @@ pub(crate) fn copy_parts(bytes: &mut Pool<'_, u8>, node: SentNode<'_>) -> Copied
 {
     Copied {
         format: copy_part(bytes, node.draft.head.format.of(node.parcel)),
-        mask: copy_mask(bytes, node.parcel, node.draft.parts.mask),
+        mask: copy_mask(bytes, node),
         plain: copy_part(bytes, plain_bytes(node)),
     }
 }

@@ -2,14 +2,13 @@ ghost use Rattle.std.specs.Prelude.{◌≡◌, ◌≤◌, true, List};
 ghost use Rattle.columns.specs.Sent.{Data};
 ghost use Rattle.columns.specs.SoundTests.{fills, mask_fills};
 ghost use Rattle.formats.specs.Kinds.{layout, offset_width};
-ghost use Rattle.parcels.specs.Reads.{mask_of, MaskWithin, sent_of};
+ghost use Rattle.parcels.specs.Reads.{mask_of, sent_of};
 ghost use Rattle.parcels.specs.Drafts.{kind_in, head_in};
 ghost use Rattle.soundness.specs.Sizes.{body_by, MaskFilled, Filled};
 
 use crate::node::SentNode;
 use crate::values::{bit_bytes, offset_width};
 use formats::kind::Kind;
-use pools::records::Part;
 
 // The bytes of a kind's first buffer after its mask.
 fn body_size(kind: Kind, rows: usize) -> usize
@@ -26,11 +25,12 @@ fn body_size(kind: Kind, rows: usize) -> usize
     }
 }
 
-fn mask_filled(parcel: &[u8], mask: Option<Part>, rows: usize) -> bool
-    requires { (MaskWithin parcel.now mask) × (rows ≤ 1048576) }
-    ensures exact { result ≡ true → MaskFilled rows mask }
-    ensures is { result ≡ mask_fills rows (mask_of parcel.now mask) }
+fn mask_filled(node: SentNode<'_>) -> bool
+    ensures exact { result ≡ true → MaskFilled node.entry.draft.head.rows node.entry.draft.parts.mask }
+    ensures is { result ≡ mask_fills node.entry.draft.head.rows (mask_of node.entry.parcel.now node.entry.draft.parts.mask) }
 {
+    let rows = node.rows();
+    let mask = node.draft.parts.mask;
     mask.is_none_or(|part| part.len == bit_bytes(rows))
 }
 
@@ -40,7 +40,6 @@ pub(crate) fn filled(node: SentNode<'_>) -> bool
     ensures exact { result ≡ true → Filled node.entry.draft }
     ensures is { (ds : List Data) → result ≡ fills (kind_in node.entry.parcel.now node.entry.draft) (head_in node.entry.parcel.now node.entry.draft) (sent_of node.entry.parcel.now node.entry.draft.parts ds) }
 {
-    let rows = node.rows();
-    let parts = node.draft.parts;
-    mask_filled(node.parcel, parts.mask, rows) && parts.body.len == body_size(node.draft.kind, rows)
+    let size = body_size(node.draft.kind, node.rows());
+    mask_filled(node) && node.draft.parts.body.len == size
 }

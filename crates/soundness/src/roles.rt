@@ -4,7 +4,7 @@ ghost use Rattle.columns.specs.Sent.{Data};
 ghost use Rattle.columns.specs.SoundTests.{role_sound, climbs};
 ghost use Rattle.columns.specs.Contents.{values_in};
 ghost use Rattle.formats.specs.Spelled.{bytes_of};
-ghost use Rattle.parcels.specs.Reads.{MaskWithin, mask_of, within};
+ghost use Rattle.parcels.specs.Reads.{mask_of, within};
 ghost use Rattle.parcels.specs.Roles.{role_of};
 ghost use Rattle.parcels.specs.Drafts.{node_in};
 ghost use Rattle.soundness.specs.Sizes.{Filled, MaskFilled, null_in};
@@ -15,14 +15,15 @@ use crate::node::SentNode;
 use formats::format::Width;
 use formats::kind::Kind;
 use parcels::draft::Role;
-use pools::records::Part;
 
 // No row is null, by a mask if there is one.
-fn no_nulls(parcel: &[u8], mask: Option<Part>, rows: usize) -> bool
-    requires { (MaskWithin parcel.now mask) × (MaskFilled rows mask) }
-    ensures { result ≡ not (null_in rows (mask_of parcel.now mask)) }
+fn no_nulls(node: SentNode<'_>) -> bool
+    requires { MaskFilled node.draft.head.rows node.draft.parts.mask }
+    ensures { result ≡ not (null_in node.entry.draft.head.rows (mask_of node.entry.parcel.now node.entry.draft.parts.mask)) }
 {
-    mask.is_none_or(|part| all_valid(part.of(parcel), rows))
+    let rows = node.rows();
+    let mask = node.draft.parts.mask;
+    mask.is_none_or(|part| all_valid(part.of(node.parcel), rows))
 }
 
 fn ends_reach(node: SentNode<'_>, width: Width, top: u64) -> bool
@@ -40,7 +41,7 @@ pub(crate) fn role_sound(node: SentNode<'_>) -> bool
 {
     match node.draft.role {
         Role::Free => true,
-        Role::Entries => no_nulls(node.parcel, node.draft.parts.mask, node.rows()),
+        Role::Entries => no_nulls(node),
         Role::Ends(top) => match node.draft.kind {
             Kind::Primitive(width) => ends_reach(node, width, u64::from(top)),
             _ => top == 0,

@@ -6,8 +6,8 @@ use Rattle.filing.specs.News.{plan_in}
 use Rattle.filing.proofs.Fitting.{part_length, mask_length, plain_within}
 use Rattle.filing.proofs.copy.copy_parts.Goals as goal
 
-pub copy_mask-requires-clause-room : goal.copy_mask-requires-clause-room
-copy_mask-requires-clause-room c =
+pub copy_mask-requires : goal.copy_mask-requires
+copy_mask-requires c =
     let F : List ℕ = within c.args.node.parcel.now c.args.node.draft.head.format in
     let M : List ℕ = mask_sent c.args.node.parcel.now c.args.node.draft.parts.mask in
     let L : List ℕ = within c.args.node.parcel.now (plan_in c.args.node.draft).plain in
