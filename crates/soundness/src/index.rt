@@ -26,10 +26,8 @@ impl<'a> Index<'a> {
     {
         let stride = node.draft.parts.lent.len / 256 + 1;
         let mut marks = [0; 256];
-        for (k, buffer) in node.lent().enumerate() {
-            if k % stride == 0 {
-                marks[k / stride] = buffer.at;
-            }
+        for (k, buffer) in node.lent().step_by(stride).enumerate() {
+            marks[k] = buffer.at;
         }
         Index {
             node,
