@@ -43,7 +43,8 @@ fn brought(lent: DataBuffers<'_>) -> NewBuffers
     total
 }
 
-// What a node with values of a width needs, `own` being what it needs whatever its kind is.
+// What a node with values of a width needs, `own` being what it needs whatever its kind is. The bound of the rows is a clause
+// here and below, as it is at `bit_bytes`.
 fn width_needs(width: Width, own: Marks, rows: usize) -> Marks
     requires { (needed own ≡ own_entries own.bytes own.buffers) × ((own.bytes < 140737490000000) × (rows ≤ 1048576)) }
     ensures { needed result ≡ width_entries width own.bytes rows own.buffers }

@@ -26,6 +26,7 @@ impl<'a> Index<'a> {
     {
         let stride = node.draft.parts.lent.len / 256 + 1;
         let mut marks = [0; 256];
+        // By index: after `marks.iter_mut().zip(..)` a proof knows the length of the array and not what it holds.
         for (k, buffer) in node.lent().step_by(stride).enumerate() {
             marks[k] = buffer.at;
         }
