@@ -14,7 +14,7 @@ use Rattle.formats.specs.declared.kind.Kind.TheVariants.{Primitive, Boolean, Tex
 use Rattle.formats.specs.declared.kind.Kind.TheVariants.{List as ListOf}
 use Rattle.parcels.specs.declared.draft.Draft.{Draft}
 use Rattle.pools.specs.declared.pools.Marks.{Marks}
-use Rattle.admission.specs.Needs.{needed, one_new, one_bytes, width_entries, kind_entries, draft_entries, drafts_need}
+use Rattle.admission.specs.Needs.{needed, width_entries, kind_entries, draft_entries, drafts_need}
 use Rattle.soundness.specs.declared.sent.DataBuffer.{DataBuffer}
 use Rattle.parcels.specs.declared.sent.Sent.{Sent}
 use Rattle.parcels.specs.declared.sent.Sent.TheVariants.{Brought, Named}
@@ -22,6 +22,15 @@ use Rattle.soundness.specs.Buffers.{buffers_from}
 use Rattle.parcels.specs.Sents.{SentAt}
 use Rattle.soundness.specs.Sources.{Told}
 use Rattle.soundness.proofs.Buffers.{bytes_then, brought_in, brought_is, buffers_told, length_buffers}
+
+-- how many data buffers a data buffer brings, as 1 or 0, and its bytes if it is brought
+abbrev pub one_new : Sent → ℕ
+one_new (Brought len) = 1
+one_new (Named number) = 0
+
+abbrev pub one_bytes : Sent → ℕ
+one_bytes (Brought len) = len
+one_bytes (Named number) = 0
 
 -- the data buffers of a list that are brought, and their bytes
 abbrev pub new_in : List DataBuffer → ℕ

@@ -12,21 +12,10 @@ use Rattle.formats.specs.declared.kind.Kind.TheVariants.{Primitive, Boolean, Tex
 use Rattle.formats.specs.declared.kind.Kind.TheVariants.{List as ListOf}
 use Rattle.parcels.specs.declared.draft.Draft.{Draft}
 use Rattle.parcels.specs.Lent.{brought_from}
-use Rattle.parcels.specs.declared.sent.Sent.{Sent}
-use Rattle.parcels.specs.declared.sent.Sent.TheVariants.{Brought, Named}
 
 -- of pools 1 to 11: nothing of the slip
 abbrev pub needed : Marks → List ℕ
 needed x = entries x ++ 0 ∷ []
-
--- how many data buffers a data buffer brings, as 1 or 0, and its bytes if it is brought
-abbrev pub one_new : Sent → ℕ
-one_new (Brought len) = 1
-one_new (Named number) = 0
-
-abbrev pub one_bytes : Sent → ℕ
-one_bytes (Brought len) = len
-one_bytes (Named number) = 0
 
 -- the data buffers that are brought, and their bytes
 abbrev pub new_count : List ℕ → Part → ℕ
@@ -40,6 +29,9 @@ mask_need None rows = 0
 mask_need (Some p) rows = bytes_for rows
 
 -- of a node: `base` bytes whatever its kind, and `new` data buffers
+abbrev pub own_entries : (base new : ℕ) → List ℕ
+own_entries base new = 0 ∷ 1 ∷ base ∷ 0 ∷ 0 ∷ 0 ∷ 0 ∷ 0 ∷ 0 ∷ new ∷ 0 ∷ []
+
 abbrev pub width_entries : Width → (base rows new : ℕ) → List ℕ
 width_entries One base r new = 0 ∷ 1 ∷ (base + r) ∷ 0 ∷ 0 ∷ 0 ∷ 0 ∷ 0 ∷ 0 ∷ new ∷ 0 ∷ []
 width_entries Two base r new = 0 ∷ 1 ∷ base ∷ r ∷ 0 ∷ 0 ∷ 0 ∷ 0 ∷ 0 ∷ new ∷ 0 ∷ []
@@ -53,9 +45,9 @@ kind_entries (Text wide) base r t l new = 0 ∷ 1 ∷ (base + t) ∷ 0 ∷ 0 ∷
 kind_entries View base r t l new = 0 ∷ 1 ∷ base ∷ 0 ∷ 0 ∷ 0 ∷ 0 ∷ r ∷ l ∷ new ∷ 0 ∷ []
 kind_entries (ListOf wide) base r t l new = 0 ∷ 1 ∷ base ∷ 0 ∷ 0 ∷ 0 ∷ (r + 1) ∷ 0 ∷ 0 ∷ new ∷ 0 ∷ []
 kind_entries Map base r t l new = 0 ∷ 1 ∷ base ∷ 0 ∷ 0 ∷ 0 ∷ (r + 1) ∷ 0 ∷ 0 ∷ new ∷ 0 ∷ []
-kind_entries Struct base r t l new = 0 ∷ 1 ∷ base ∷ 0 ∷ 0 ∷ 0 ∷ 0 ∷ 0 ∷ 0 ∷ new ∷ 0 ∷ []
-kind_entries RunEnds base r t l new = 0 ∷ 1 ∷ base ∷ 0 ∷ 0 ∷ 0 ∷ 0 ∷ 0 ∷ 0 ∷ new ∷ 0 ∷ []
-kind_entries (FixedList size) base r t l new = 0 ∷ 1 ∷ base ∷ 0 ∷ 0 ∷ 0 ∷ 0 ∷ 0 ∷ 0 ∷ new ∷ 0 ∷ []
+kind_entries Struct base r t l new = own_entries base new
+kind_entries RunEnds base r t l new = own_entries base new
+kind_entries (FixedList size) base r t l new = own_entries base new
 
 abbrev pub draft_entries : List ℕ → Draft → List ℕ
 draft_entries parcel d =

@@ -19,6 +19,7 @@ use soundness::shelved::Shelved;
 
 // The first denial that a parcel meets: as it is read, then by node, then for want of room. Else its nodes are drafted,
 // and what they need is told.
+// The table of drafts is lent and of fixed size, since the shelf has no heap; how many of it are drafted is in `Accepted`.
 pub fn examine(
     parcel: &[u8],
     shelved: Shelved<'_>,

@@ -4,7 +4,7 @@ ghost use Rattle.std.specs.List.{AllByRecursion};
 ghost use Rattle.columns.specs.Pools.{plus, one_column, sum_of};
 ghost use Rattle.parcels.specs.Lent.{brought_from};
 ghost use Rattle.pools.specs.Marked.{listed};
-ghost use Rattle.admission.specs.Needs.{needed, mask_need, width_entries, kind_entries, draft_entries, drafts_need};
+ghost use Rattle.admission.specs.Needs.{needed, mask_need, own_entries, width_entries, kind_entries, draft_entries, drafts_need};
 
 use formats::format::Width;
 use formats::kind::Kind;
@@ -43,20 +43,15 @@ fn brought(lent: DataBuffers<'_>) -> NewBuffers
     total
 }
 
-// What values of a width need, with `base` bytes and `new` data buffers.
-fn width_needs(width: Width, base: usize, rows: usize, new: usize) -> Marks
-    requires { (base < 140737490000000) × (rows ≤ 1048576) }
-    ensures { needed result ≡ width_entries width base rows new }
+// What a node with values of a width needs, `own` being what it needs whatever its kind is. The bound of the rows is a clause
+// here and below, as it is at `bit_bytes`.
+fn width_needs(width: Width, own: Marks, rows: usize) -> Marks
+    requires { (needed own ≡ own_entries own.bytes own.buffers) × ((own.bytes < 140737490000000) × (rows ≤ 1048576)) }
+    ensures { needed result ≡ width_entries width own.bytes rows own.buffers }
 {
-    let own = Marks {
-        nodes: 1,
-        bytes: base,
-        buffers: new,
-        ..Marks::default()
-    };
     match width {
         Width::One => Marks {
-            bytes: base + rows,
+            bytes: own.bytes + rows,
             ..own
         },
         Width::Two => Marks {
@@ -80,7 +75,7 @@ fn kind_needs(kind: Kind, base: usize, rows: usize, text: usize, list: usize, ne
         ..Marks::default()
     };
     match kind {
-        Kind::Primitive(width) => width_needs(width, base, rows, new),
+        Kind::Primitive(width) => width_needs(width, own, rows),
         Kind::Boolean => Marks {
             bytes: base + bit_bytes(rows),
             ..own
@@ -108,10 +103,7 @@ fn mask_bytes(mask: Option<Part>, rows: usize) -> usize
     ensures is { result ≡ mask_need mask rows }
     ensures low { result ≤ 131072 }
 {
-    match mask {
-        Some(_) => bit_bytes(rows),
-        None => 0,
-    }
+    mask.map_or(0, |_| bit_bytes(rows))
 }
 
 // What a node needs: itself, its format string, its buffers, and the data buffers that it brings.

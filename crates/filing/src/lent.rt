@@ -58,11 +58,7 @@ pub(crate) fn put_brought(
     let parcel = lent.parcel;
     for buffer in lent {
         if let Sent::Brought(len) = buffer.sent {
-            let brought = Part {
-                start: buffer.at + 4,
-                len,
-            };
-            buffers.append(copy_part(bytes, brought.of(parcel)));
+            buffers.append(copy_part(bytes, buffer.bytes(parcel, len)));
         }
     }
 }

@@ -1,9 +1,11 @@
-use Rattle.std.proofs.Common.{◌≡◌, ℕ, ◌+◌, ◌*◌, ◌/◌, ◌%◌, ◌^◌, ◌<◌, ◌≤◌, Bool, true, ◌&&◌, eqb, ltb, leb, List, [], ◌∷◌, length, Some, Option, get_or, drop, set, sym, ap, ◌∙◌, subst, inl, inr, div-lt_iff_lt-mul, div-add-mod', mul-div_cancel, arith}
-use native.Mathlib.Nat.{mul-mod_left}
+use Rattle.std.proofs.Common.{◌≡◌, ℕ, ◌+◌, ◌*◌, ◌/◌, ◌%◌, ◌^◌, ◌<◌, ◌≤◌, min, Bool, true, cond, ◌&&◌, eqb, ltb, leb, List, [], ◌∷◌, length, Some, None, Option, get_or, drop, set, sym, ap, ◌∙◌, subst, inl, inr, div-lt_iff_lt-mul, div-add-mod', mul-div_cancel, arith}
+use Rattle.std.proofs.Math.Nat.{add-mul, min-le_left}
 use Rattle.std.proofs.lemmas.List.{drop_more, drop_all, length-map, get_or-set_same, get_or-set_other, length-drop}
 use Rattle.std.proofs.lemmas.Bool.{lt-ltb, cond-true, cases_eq, cases_lt}
 use Rattle.std.specs.List.{slice_get}
-use Rattle.std.specs.Iterator.{YieldsFirst, SkipsThenYields}
+use Rattle.std.specs.declared.iter.StepBy.{StepBy}
+use Rattle.std.specs.Iterator.Adapters.{step_by_steps}
+use Rattle.std.specs.Iterator.{YieldsFirst, YieldsThen, SkipsThenYields}
 use Rattle.std.proofs.lemmas.Iterator.Adapters.{option_map_id}
 use Rattle.std.proofs.lemmas.Iterator.Consumers.{YieldsList-from_first, nth_from_yields_List}
 use Rattle.soundness.specs.declared.data_buffers.DataBuffers.{DataBuffers}
@@ -28,25 +30,14 @@ in_places s len k e h =
     let p : 0 < s = omega arith in
     (div-lt_iff_lt-mul {k = s} {x = k} {y = 256} p).1 (omega arith)
 
-module _ (parcel : List ℕ) (start s k at : ℕ) (marks : List ℕ) (p : 0 < s) (e : at ≡ place_of parcel start k) (g : (j : ℕ) → j * s < k → get_or marks j 0 ≡ place_of parcel start (j * s)) where
-  pub marks_kept : (k % s ≡ 0 → ⊥) → (j : ℕ) → j * s < k + 1 → get_or marks j 0 ≡ place_of parcel start (j * s)
-  marks_kept n j h =
-      elim (cases_eq (j * s) k) [
-        | inl q ↦ absurd (n (ap (λ (x : ℕ). x % s) (sym q) ∙ mul-mod_left j s))
-        | inr q ↦ let l : j * s < k = omega arith in g j l
-      ]
-
-  pub marks_more : k % s ≡ 0 → k / s < length marks → (j : ℕ) → j * s < k + 1 → get_or (set marks (k / s) at) j 0 ≡ place_of parcel start (j * s)
-  marks_more z l j h =
-      elim (cases_eq j (k / s)) [
-        | inl q ↦
-            let w : k ≡ j * s = omega (arith, div-add-mod' k s, ap (λ (x : ℕ). x * s) q) in
-            ap (λ (x : ℕ). get_or (set marks (k / s) at) x 0) q ∙ get_or-set_same marks (k / s) at 0 l ∙ e ∙ ap (place_of parcel start) w
-        | inr q ↦
-            let n : j * s ≡ k → ⊥ = λ w. q (sym (mul-div_cancel j p) ∙ ap (λ (x : ℕ). x / s) w) in
-            let t : j * s < k = elim (cases_eq (j * s) k) [ inl w ↦ absurd (n w) | inr w ↦ omega arith ] in
-            get_or-set_other marks (k / s) j at 0 q ∙ g j t
-      ]
+-- one place more is known
+pub marks_more : (parcel : List ℕ) (start s k at : ℕ) (marks : List ℕ) → at ≡ place_of parcel start (k * s) → ((j : ℕ) → j < k → get_or marks j 0 ≡ place_of parcel start (j * s)) → k < length marks
+    → (j : ℕ) → j < k + 1 → get_or (set marks k at) j 0 ≡ place_of parcel start (j * s)
+marks_more parcel start s k at marks e g l j h =
+    elim (cases_eq j k) [
+      | inl q ↦ ap (λ (x : ℕ). get_or (set marks k at) x 0) q ∙ get_or-set_same marks k at 0 l ∙ e ∙ ap (λ (x : ℕ). place_of parcel start (x * s)) (sym q)
+      | inr q ↦ get_or-set_other marks k j at 0 q ∙ g j (omega (arith, q))
+    ]
 
 module _ (parcel : List ℕ) (lent : Part) (x : Places) (i : Indexed parcel lent x) (k : ℕ) (h : k < lent.len) where
   whole : k / x.stride * x.stride + k % x.stride ≡ k
@@ -77,12 +68,51 @@ buffers_first parcel at n k x rest e =
       | inr h ↦ let z : x ∷ rest ≡ [] = e ∙ drop_all k all (omega (arith, l)) in cc
     ]
 
--- the walk's count fits
-pub walk_fits : (parcel p : List ℕ) (at n count a m : ℕ) → buffers_from p a m ≡ drop count (buffers_from parcel at n) → count ≤ n → n < 65536 → count + length (buffers_from p a m) < 2 ^ 64
-walk_fits parcel p at n count a m e h l = omega (arith, ap length e, length-drop count (buffers_from parcel at n), length_buffers parcel at n)
+-- a walk that passes some of them over
+abbrev pub ahead : DataBuffers → List DataBuffer
+ahead s = buffers_from s.parcel.now s.at s.left
 
-pub walk_end : (parcel p : List ℕ) (at n count a m : ℕ) → buffers_from p a m ≡ drop count (buffers_from parcel at n) → buffers_from p a m ≡ [] → n ≤ count
-walk_end parcel p at n count a m e z = omega (arith, ap length e, ap length z, length-drop count (buffers_from parcel at n), length_buffers parcel at n)
+module _ (parcel : List ℕ) (at n : ℕ) where
+  pub passed : (s : DataBuffers) (xs : List DataBuffer) (x : DataBuffer) (u : DataBuffers) (m k : ℕ) → k ≡ m + length xs → YieldsThen (YieldsFirst ahead) s xs (Some x) u → ahead s ≡ drop m (buffers_from parcel at n)
+      → (k < n) × (x ≡ buffer_in parcel (place_of parcel at k)) × (ahead u ≡ drop (k + 1) (buffers_from parcel at n))
+  passed s [] x u m k e (t, y, l) d =
+      let z : m ≡ k = omega (arith, e) in
+      buffers_first parcel at n k x (ahead u) (sym l ∙ ap ahead (sym y) ∙ d ∙ ap (λ (i : ℕ). drop i (buffers_from parcel at n)) z)
+  passed s (y ∷ ys) x u m k e (t, (j, g, h), l) d = passed j ys x u (m + 1) k (omega (arith, e)) (t, h, l) (buffers_first parcel at n m y (ahead j) (sym g ∙ d)).2
+
+  pub ended : (s : DataBuffers) (xs : List DataBuffer) (u : DataBuffers) (m : ℕ) → YieldsThen (YieldsFirst ahead) s xs None u → ahead s ≡ drop m (buffers_from parcel at n) → n ≤ m + length xs
+  ended s [] u m (t, y, l) d =
+      omega (arith, ap length (sym d ∙ ap ahead y ∙ l.0), length-drop m (buffers_from parcel at n), length_buffers parcel at n)
+  ended s (y ∷ ys) u m (t, (j, g, h), l) d =
+      let r = ended j ys u (m + 1) (t, h, l) (buffers_first parcel at n m y (ahead j) (sym g ∙ d)).2 in
+      omega (arith, r)
+
+-- a walk that gives every so many-th of them, which has given k
+pub record Stepping (parcel : List ℕ) (at n stride : ℕ) (w : StepBy DataBuffers) (k : ℕ) : Type 0 where
+  pub past : ℕ
+  pub left : ahead w.iter ≡ drop past (buffers_from parcel at n)
+  pub gap : w.gap + 1 ≡ stride
+  pub next : past + cond w.first 0 w.gap ≡ k * stride
+
+module _ (parcel : List ℕ) (at n stride : ℕ) (w v : StepBy DataBuffers) (k : ℕ) (g : Stepping parcel at n stride w k) where
+  pub step_more : (x : DataBuffer) → step_by_steps (YieldsFirst ahead) w (Some x) v → (k * stride < n) × (x ≡ buffer_in parcel (place_of parcel at (k * stride))) × Stepping parcel at n stride v (k + 1)
+  step_more x (a, f, (i, xs, e, run, l)) =
+      let p = passed parcel at n w.iter xs x v.iter g.past (k * stride) (omega (arith, g.next, e, l)) run g.left in
+      let z : v.gap + 1 ≡ stride = omega (arith, a, g.gap) in
+      let y : k * stride + 1 + cond v.first 0 v.gap ≡ (k + 1) * stride =
+      ap (λ (b : Bool). k * stride + 1 + cond b 0 v.gap) f ∙ omega (arith, add-mul k 1 stride, z) in
+      (p.0, p.1, record { past = k * stride + 1; left = p.2; gap = z; next = y })
+
+  pub step_end : step_by_steps (YieldsFirst ahead) w None v → n ≤ k * stride
+  step_end (a, f, (i, xs, e, run, l)) = let r = ended parcel at n w.iter xs v.iter g.past run g.left in omega (arith, g.next, e, l, r)
+
+  -- the walk's count fits
+  pub step_fits : (x : ℕ) → k ≤ 256 → n < 65536 → k + min (length (ahead w.iter)) x < 2 ^ 64
+  step_fits x h l = omega (arith, min-le_left (length (ahead w.iter)) x, ap length g.left, length-drop g.past (buffers_from parcel at n), length_buffers parcel at n)
+
+-- at most 256 are kept
+pub kept_few : (s len k : ℕ) → s ≡ len / 256 + 1 → k * s < len → k < 256
+kept_few s len k e h = let p : 0 < s = omega arith in subst (λ (i : ℕ). i < 256) (mul-div_cancel k p) (in_places s len (k * s) e h)
 
 -- one in a few steps
 pub nth_buffer : (parcel : List ℕ) (at n : ℕ) → slice_get (buffers_from parcel at (n + 1)) n ≡ Some (buffer_in parcel (place_of parcel at n))

@@ -1,4 +1,5 @@
--- Facts that have at most one proof, which the types of the nodes carry.
+-- Each fact that is a ghost field of a type here (of nodes, of places, of what is shelved) has at most one proof: a type has to
+-- show it of such a field. The types name these proofs, and no contract says what they say.
 use Rattle.std.proofs.Common.{◌≡◌, ℕ, cond, eqb, List, Some, None, Option, sym, refl, ap, ◌∙◌}
 use mathlib.Core.HLevel.{Unit-prop, Π_prop, collapsible→set}
 use native.Mathlib.Nat.{ℕ_set}

@@ -10,7 +10,7 @@ use crate::node::SentNode;
 use crate::values::{bit_bytes, offset_width};
 use formats::kind::Kind;
 
-// The bytes of a kind's first buffer after its mask.
+// The bytes of a kind's first buffer after its mask. The bound of the rows is a clause, as it is at `bit_bytes`.
 fn body_size(kind: Kind, rows: usize) -> usize
     requires { rows ≤ 1048576 }
     ensures { result ≡ body_by (layout kind) (offset_width kind) rows }

@@ -26,10 +26,9 @@ impl<'a> Index<'a> {
     {
         let stride = node.draft.parts.lent.len / 256 + 1;
         let mut marks = [0; 256];
-        for (k, buffer) in node.lent().enumerate() {
-            if k % stride == 0 {
-                marks[k / stride] = buffer.at;
-            }
+        // By index: after `marks.iter_mut().zip(..)` a proof knows the length of the array and not what it holds.
+        for (k, buffer) in node.lent().step_by(stride).enumerate() {
+            marks[k] = buffer.at;
         }
         Index {
             node,

@@ -25,6 +25,8 @@ fn offsets_within(node: SentNode<'_>, width: Width, bound: u64) -> bool
 }
 
 // Whether a node is sound as its kind asks. Its buffers are filled, and the data buffers that it names were shelved before.
+// That they are filled is a clause: it is the outcome of one test of `sound`, which calls this next. A type of filled nodes
+// would be made in that one place and taken apart here and in `role_sound`.
 pub(crate) fn kind_sound(node: SentNode<'_>, shelved: Shelved<'_>) -> bool
     requires { Filled node.draft }
     ensures { (more : List (List ℕ)) → unshelved_in (length shelved.entry.buffers.now) (data_of node.entry.parcel.now (buffers_in shelved.entry.bytes.now shelved.entry.buffers.now ++ more) node.entry.draft) ≡ none

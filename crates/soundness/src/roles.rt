@@ -35,6 +35,8 @@ fn ends_reach(node: SentNode<'_>, width: Width, top: u64) -> bool
 
 // Whether a node is sound as its parent asks: run ends climb to the parent's rows, and no entry of a map is null. A node
 // that has no values has no run ends.
+// That its buffers are filled is a clause: it is the outcome of one test of `sound`, which calls this next. A type of filled
+// nodes would be made in that one place and taken apart here and in `kind_sound`.
 pub(crate) fn role_sound(node: SentNode<'_>) -> bool
     requires { Filled node.draft }
     ensures { (ds : List Data) → result ≡ role_sound (role_of node.entry.draft.role) (node_in node.entry.parcel.now node.entry.draft ds) }

@@ -24,13 +24,7 @@ impl<'a> Shelved<'a> {
         ensures { result.now ≡ source_at parcel.now self.entry.bytes.now self.entry.buffers.now buffer.at }
     {
         match buffer.sent {
-            Sent::Brought(len) => {
-                let part = Part {
-                    start: buffer.at + 4,
-                    len,
-                };
-                part.of(parcel)
-            }
+            Sent::Brought(len) => buffer.bytes(parcel, len),
             Sent::Named(number) => match self.buffers.get(number) {
                 Some(part) => part.of(self.bytes),
                 None => &[],

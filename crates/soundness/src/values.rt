@@ -31,6 +31,8 @@ pub(crate) fn last_in_order<F: Fn(u64, u64) -> bool>(
     ensures { (test : ℕ → ℕ → Bool) → ((low next : ℕ) (r : Bool) → F.post follows low next r → r ≡ test low next)
         → result ≡ walked test 0 (all_values (bytes_of width) body.now) }
 {
+    // Tried: `try_fold` over the entries. Its closure has to ask once more that `follows` can be called and that an entry
+    // has the width's bytes, and the goals `follows-requires` and `returns` stayed open.
     let mut low = 0;
     for entry in body.chunks_exact(width.bytes()) {
         let next = first_value(entry, width);
@@ -58,6 +60,8 @@ pub fn offset_width(wide: bool) -> Width
 }
 
 // The bytes that a bit for each row takes.
+// That there are at most 1048576 rows is asked here and where this is called. A type for a count of rows would be made
+// and taken apart at each use.
 pub fn bit_bytes(rows: usize) -> usize
     requires { rows ≤ 1048576 }
     ensures is { result ≡ bytes_for rows }

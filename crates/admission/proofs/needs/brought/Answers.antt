@@ -1,6 +1,5 @@
 use Rattle.std.proofs.Common.{ap, ◌∙◌, arith}
-use Rattle.admission.specs.Needs.{one_bytes}
-use Rattle.admission.proofs.Counting.{new_in, size_in, count_is, count_few, sum_is, sum_low}
+use Rattle.admission.proofs.Counting.{one_bytes, new_in, size_in, count_is, count_few, sum_is, sum_low}
 use Rattle.admission.proofs.needs.brought.Goals as goal
 
 pub overflow_add-total : goal.overflow_add-total
