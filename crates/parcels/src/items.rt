@@ -15,8 +15,7 @@ use pools::records::Part;
 // The bit of a header's first byte that says that the node has a mask; the others say how long its format is.
 const MASKED: u8 = 1 << 7;
 
-// The length that stands before a buffer: the number in four bytes, the highest first.
-// The length that a buffer or a data buffer begins with. `as`, since `usize` has no `From<u32>`.
+// The length that a buffer or a data buffer begins with: four bytes, the highest first. `as`, since `usize` has no `From<u32>`.
 pub fn length_of(ahead: &[u8]) -> Option<usize>
     ensures { elim result [
       | Some n ↦ (4 ≤ length ahead.now) × (n ≡ buffer_length ahead.now) × (n < 4294967296)

@@ -63,8 +63,8 @@ impl Reader<'_> {
         Ok(())
     }
 
-    // A 16-bit count and its data buffers: where they start, and how many. Whether they are sent is told by the format, as in
-    // `buffer_if`.
+    // A 16-bit count and its data buffers: where they start, and how many. Not by `buffer_if`, since a count and a list are read
+    // and no buffer. Whether they are sent is told by the format, as there.
     fn lent_if(&mut self, wanted: bool) -> Result<Part, Denial>
         ensures reads { (bs : List (List ℕ)) → elim result [
           | Ok x ↦ LentAs self.old.parcel.now self.old.place bs x self.new.place (data_buffers wanted (stands self.old bs))

@@ -52,7 +52,8 @@ impl Shown<'_> {
     }
 }
 
-// Reads a row of a column of the shelf, as the ledger answers it.
+// Reads a row of a column of the shelf, as the ledger answers it. That the marks are in range stays a clause: the pools are the
+// caller's.
 pub fn read(pools: &Pools<'_>, column: u32, row: usize, text: &mut [u8]) -> Result<usize, Denial>
     requires ready { Ready pools.now }
     requires given { ∥ ((s : Shelf) × ShelfReadable (store pools.now) s) ∥₁ }

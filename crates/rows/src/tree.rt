@@ -40,7 +40,7 @@ pub fn first_child(place: usize) -> usize
     place + 1
 }
 
-// Where the next child starts, after the child at a place and all its nodes.
+// Where the next child starts, after the child at a place and all its nodes. That the mark is in range is a clause, as at `Pool`.
 pub fn next_child(nodes: &Pool<'_, Node>, place: usize) -> usize
     requires standing { Standing nodes.now }
     requires there { place < length (used nodes.now) }
