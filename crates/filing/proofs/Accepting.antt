@@ -33,7 +33,8 @@ use Rattle.pools.proofs.Keeping.{keeps_none, keeps_grown, kept_then, kept_extend
 use Rattle.pools.proofs.Showing.{shows_added}
 use Rattle.parcels.specs.declared.draft.Draft.{Draft}
 use Rattle.parcels.specs.Drafts.{Drafted, preorder, checks_of}
-use Rattle.filing.specs.News.{Filled, brought_by}
+use Rattle.filing.specs.News.{brought_by}
+use Rattle.soundness.specs.Sizes.{Filled}
 use Rattle.filing.specs.Row.{Row, sizes_of, sizes_each, spans_of}
 use Rattle.filing.specs.Counts.{children_in}
 use Rattle.filing.specs.Filed.{takes_all, nodes_from, brought_all, Fits, Filed}

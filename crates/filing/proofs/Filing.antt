@@ -31,7 +31,8 @@ use Rattle.parcels.specs.Lent.{data_from}
 use Rattle.parcels.specs.Drafts.{Drafted, node_in}
 use Rattle.filing.specs.Lent.{flat, parts_from}
 use Rattle.pools.specs.Laid.{halves_in}
-use Rattle.filing.specs.News.{News, Room, Gained, Filled, node_news, plan_in, own_bytes, brought_by, brought_start, entry_of}
+use Rattle.filing.specs.News.{News, Room, Gained, node_news, plan_in, own_bytes, brought_by, brought_start, entry_of}
+use Rattle.soundness.specs.Sizes.{Filled}
 use Rattle.filing.specs.Row.{Row}
 use Rattle.filing.specs.Filed.{takes, both, takes_all, nodes_from, brought_all, Fits, Filed}
 use Rattle.filing.proofs.Lents.{parts_length}

@@ -1,4 +1,6 @@
 -- What is added to a pool has room in it.
+use Rattle.formats.specs.Kinds.{layout, offset_width}
+use Rattle.soundness.specs.Sizes.{body_by}
 use Rattle.std.proofs.Common.{◌≡◌, ℕ, ◌+◌, ◌*◌, ◌≤◌, true, List, ◌++◌, map, length, drop, Some, None, Option, sym, refl, ◌∙◌, subst, ap₂, arith, rules, length-append}
 use lib.ListN.{length-map}
 use Rattle.formats.specs.declared.format.Width.TheVariants.{One, Two, Four, Eight}
@@ -21,7 +23,7 @@ use Rattle.parcels.specs.Lent.{readable, data_from, brought_from}
 use Rattle.parcels.specs.Drafts.{Drafted}
 use Rattle.filing.specs.Bodies.{BodyRoom}
 use Rattle.filing.specs.Masks.{mask_len, mask_sent}
-use Rattle.filing.specs.Plans.{Plan, plan_of, body_bytes, place_in}
+use Rattle.filing.specs.Plans.{Plan, plan_of, place_in}
 use Rattle.filing.specs.News.{Room, node_news, plan_in, own_bytes, brought_by, brought_start}
 use Rattle.pools.specs.declared.pools.Pools.{Pools}
 use Rattle.pools.specs.declared.pools.Marks.{Marks}
@@ -80,7 +82,7 @@ pub record PlanFits (parcel : List ℕ) (x : Parts) (size : ℕ) (p : Plan) : Ty
   pub list : readable parcel p.list.start p.list.len ≡ true
   pub new : length (brought_from parcel p.list.start p.list.len) ≤ length (brought_from parcel x.lent.start x.lent.len)
 
-plan_fits : (parcel : List ℕ) (k : Kind) (x : Parts) (n : ℕ) → Inside parcel x → readable parcel x.lent.start x.lent.len ≡ true → x.body.len ≡ body_bytes k n → PlanFits parcel x x.body.len (plan_of k x n)
+plan_fits : (parcel : List ℕ) (k : Kind) (x : Parts) (n : ℕ) → Inside parcel x → readable parcel x.lent.start x.lent.len ≡ true → x.body.len ≡ body_by (layout k) (offset_width k) n → PlanFits parcel x x.body.len (plan_of k x n)
 plan_fits parcel (Primitive One) x n i r h = search (rules, none_readable, none_brought)
 plan_fits parcel (Primitive Two) x n i r h = search (rules, none_readable, none_brought)
 plan_fits parcel (Primitive Four) x n i r h = search (rules, none_readable, none_brought)
@@ -94,7 +96,7 @@ plan_fits parcel Struct x n i r h = search (rules, none_readable, none_brought)
 plan_fits parcel RunEnds x n i r h = search (rules, none_readable, none_brought)
 plan_fits parcel (FixedList size) x n i r h = search (rules, none_readable, none_brought)
 
-pub plan_within : (parcel : List ℕ) (d : Draft) → Drafted parcel d → d.parts.body.len ≡ body_bytes d.kind d.head.rows → PlanFits parcel d.parts (length (within parcel d.parts.body)) (plan_in d)
+pub plan_within : (parcel : List ℕ) (d : Draft) → Drafted parcel d → d.parts.body.len ≡ body_by (layout d.kind) (offset_width d.kind) d.head.rows → PlanFits parcel d.parts (length (within parcel d.parts.body)) (plan_in d)
 plan_within parcel d h b =
     subst (λ (n : ℕ). PlanFits parcel d.parts n (plan_in d)) (sym (part_length parcel d.parts.body h.parts.body))
     (plan_fits parcel d.kind d.parts d.head.rows h.parts h.lent b)

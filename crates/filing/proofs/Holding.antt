@@ -42,8 +42,9 @@ use Rattle.parcels.specs.Drafts.{Drafted, node_in, head_in}
 use Rattle.pools.specs.Laid.{halves_in, entries_in}
 use Rattle.filing.specs.Lent.{flat}
 use Rattle.filing.specs.Masks.{mask_len, mask_sent, mask_at}
-use Rattle.filing.specs.Plans.{Plan, plan_of, place_in, body_bytes}
-use Rattle.filing.specs.News.{Gained, Filled, MaskFilled, node_news, plan_in, brought_by, plain_start, entry_of}
+use Rattle.filing.specs.Plans.{Plan, plan_of, place_in}
+use Rattle.filing.specs.News.{Gained, node_news, plan_in, brought_by, plain_start, entry_of}
+use Rattle.soundness.specs.Sizes.{Filled, MaskFilled, body_by}
 use Rattle.filing.proofs.Numbers.{views_told}
 use Rattle.filing.proofs.Fitting.{part_length, mask_length, count_length, entries_length, data_length, plain_within, plan_within}
 
@@ -82,7 +83,7 @@ bits_lie {bytes} place len rows body s e f b =
           (subst (λ (v : List ℕ). Segment bytes place len v) (sym (bits_read_back.spare_bits rows body (omega arith) b)) s);
     }
 
-mask_lies : {bytes : List ℕ} (parcel : List ℕ) (m : Option Part) (place rows : ℕ) → MaskWithin parcel m → MaskFilled m rows → Bytes parcel → Segment bytes place (mask_len m) (mask_sent parcel m)
+mask_lies : {bytes : List ℕ} (parcel : List ℕ) (m : Option Part) (place rows : ℕ) → MaskWithin parcel m → MaskFilled rows m → Bytes parcel → Segment bytes place (mask_len m) (mask_sent parcel m)
     → MaskLies bytes (mask_at m place) rows (rules_contents.mask_in rows (mask_of parcel m)) (rules_contents.mask_spare_in rows (mask_of parcel m))
 mask_lies parcel None place rows w f b s = refl
 mask_lies parcel (Some p) place rows w f b s = bits_lie place p.len rows (within parcel p) s (part_length parcel p w) f (bytes_slice parcel p.start p.len b)
@@ -99,7 +100,7 @@ record Lain (P : Store) (parcel : List ℕ) (x : Parts) (p : Plan) (start next :
 
 buffers_lie : (P : Store) (parcel : List ℕ) (k : Kind) (x : Parts) (h : rules_heads.Head) (plain next : ℕ) (m : Marks) (r : Entry)
     → r.place ≡ place_in k plain m → r.text ≡ record { start = plain; len = (plan_of k x h.rows).plain.len } → r.buffers ≡ record { start = m.lists; len = (plan_of k x h.rows).list.len }
-    → offset_width k ≡ offset_bytes h.format → Within parcel x.body → x.body.len ≡ body_bytes k h.rows → Bytes parcel → Lain P parcel x (plan_of k x h.rows) plain next m
+    → offset_width k ≡ offset_bytes h.format → Within parcel x.body → x.body.len ≡ body_by (layout k) (offset_width k) h.rows → Bytes parcel → Lain P parcel x (plan_of k x h.rows) plain next m
     → BuffersLie P r k (node_from (layout k) h (sent_of parcel x (data_from parcel x.lent.start next x.lent.len)))
 buffers_lie P parcel (Primitive One) x h plain next m r a t b o w f c l =
     let rows : length (within parcel x.body) ≡ h.rows = part_length parcel x.body w ∙ (let e : x.body.len ≡ h.rows = omega arith in e) in (

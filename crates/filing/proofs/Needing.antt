@@ -6,7 +6,7 @@ use Rattle.formats.specs.declared.format.Width.TheVariants.{One, Two, Four, Eigh
 use Rattle.formats.specs.declared.kind.Kind.{Kind}
 use Rattle.formats.specs.declared.kind.Kind.TheVariants.{Primitive, Boolean, Text, View, Map, Struct, RunEnds, FixedList}
 use Rattle.formats.specs.declared.kind.Kind.TheVariants.{List as ListOf}
-use Rattle.formats.specs.Kinds.{layout}
+use Rattle.formats.specs.Kinds.{layout, offset_width}
 use Rattle.columns.specs.Says.{slice}
 use Rattle.columns.specs.Format.{offset_bytes}
 use Rattle.columns.specs.Kinds as rules_format
@@ -23,8 +23,9 @@ use Rattle.parcels.specs.Lent.{data_from}
 use Rattle.parcels.specs.Drafts.{Drafted, node_in, kind_in, head_in, preorder, preorders}
 use Rattle.filing.specs.Lent.{flat}
 use Rattle.filing.specs.Masks.{mask_len}
-use Rattle.filing.specs.Plans.{plan_of, body_bytes}
-use Rattle.filing.specs.News.{MaskFilled, Filled, brought_by}
+use Rattle.filing.specs.Plans.{plan_of}
+use Rattle.filing.specs.News.{brought_by}
+use Rattle.soundness.specs.Sizes.{MaskFilled, Filled, body_by}
 use Rattle.filing.specs.Filed.{takes_all, nodes_from, brought_all}
 use Rattle.filing.proofs.Fitting.{part_length, count_length, data_length}
 
@@ -79,7 +80,7 @@ record NodeTakes (K : rules_format.Kind) (n : Node) (x : Parts) (rows : ℕ) (k 
   pub views : length n.views ≡ (plan_of k x rows).views
   pub lists : length n.buffers ≡ (plan_of k x rows).list.len
 
-node_takes : (parcel : List ℕ) (k : Kind) (x : Parts) (h : rules_heads.Head) (next : ℕ) → Within parcel x.text → x.body.len ≡ body_bytes k h.rows
+node_takes : (parcel : List ℕ) (k : Kind) (x : Parts) (h : rules_heads.Head) (next : ℕ) → Within parcel x.text → x.body.len ≡ body_by (layout k) (offset_width k) h.rows
     → NodeTakes (layout k) (node_from (layout k) h (sent_of parcel x (data_from parcel x.lent.start next x.lent.len))) x h.rows k
 node_takes parcel (Primitive One) x h next t f = record { plain = (let c = count_length (value_at 1 (within parcel x.body)) h.rows in omega arith); shorts = refl; words = refl; longs = refl; offsets = refl; views = refl; lists = refl }
 node_takes parcel (Primitive Two) x h next t f = record { plain = refl; shorts = count_length (value_at 2 (within parcel x.body)) h.rows; words = refl; longs = refl; offsets = refl; views = refl; lists = refl }
@@ -100,7 +101,7 @@ draft_takes parcel d next h f =
     subst (λ (K : rules_format.Kind). NodeTakes K (node_from K (head_in parcel d) (sent_of parcel d.parts (data_from parcel d.parts.lent.start next d.parts.lent.len))) d.parts d.head.rows d.kind) h.layout
     (node_takes parcel d.kind d.parts (head_in parcel d) next h.parts.text f.body)
 
-mask_takes : (parcel : List ℕ) (m : Option Part) (rows : ℕ) → MaskFilled m rows → elim (rules_contents.mask_in rows (mask_of parcel m)) [ none ↦ 0 | some bs ↦ bytes_for (length bs) ] ≡ mask_len m
+mask_takes : (parcel : List ℕ) (m : Option Part) (rows : ℕ) → MaskFilled rows m → elim (rules_contents.mask_in rows (mask_of parcel m)) [ none ↦ 0 | some bs ↦ bytes_for (length bs) ] ≡ mask_len m
 mask_takes parcel None rows f = refl
 mask_takes parcel (Some p) rows f = ap bytes_for (count_length (rules_contents.bit_at (within parcel p)) rows) ∙ sym f
 

@@ -16,7 +16,7 @@ use Rattle.parcels.specs.Drafts.{Drafted}
 use Rattle.filing.specs.Row.{spans_of}
 use Rattle.filing.specs.Counts.{children_in}
 use Rattle.pools.specs.declared.records.Part.{Part}
-use Rattle.filing.specs.News.{MaskFilled, Filled}
+use Rattle.soundness.specs.Sizes.{MaskFilled, Filled}
 use Rattle.filing.specs.Filed.{Fits, takes_all}
 use Rattle.filing.specs.Accepted.{Accepted}
 use Rattle.filing.proofs.Accepting.{told, spans_low}
@@ -45,7 +45,7 @@ fits_prop p m = λ x y i.
       buffers = fit_prop p.buffers m.buffers x.buffers y.buffers i;
     }
 
-mask_filled_prop : (mask : Option Part) (rows : ℕ) → IsProp (MaskFilled mask rows)
+mask_filled_prop : (mask : Option Part) (rows : ℕ) → IsProp (MaskFilled rows mask)
 mask_filled_prop None rows = Unit-prop
 mask_filled_prop (Some p) rows = ℕ_set _ _
 

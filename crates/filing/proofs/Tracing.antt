@@ -24,8 +24,8 @@ use Rattle.parcels.specs.Lent.{place_of, data_from}
 use Rattle.parcels.specs.Drafts.{Drafted, lent_read, given_in, lent_of, held_after, kind_in, head_in, node_in, kind_sound_by, sound_by, checks_in, checks_of, nodes_of, held_of}
 use Rattle.parcels.specs.Drafts as drafts
 use Rattle.parcels.proofs.Lents.{reads_flat, P}
-use Rattle.filing.specs.Plans.{body_bytes}
-use Rattle.filing.specs.News.{MaskFilled, Filled, brought_by}
+use Rattle.filing.specs.News.{brought_by}
+use Rattle.soundness.specs.Sizes.{MaskFilled, Filled, body_by}
 use Rattle.filing.specs.Filed.{nodes_from, brought_all}
 use Rattle.filing.proofs.Fitting.{part_length}
 
@@ -59,7 +59,7 @@ held_are parcel bs number (d ∷ ds) a =
     ∙ held_are parcel (bs ++ brought_by parcel d) (number + 1) ds a.1 ∙ append_assoc bs (brought_by parcel d) (brought_all parcel ds)
 
 -- buffers that are filled
-size_is : (k : Kind) (h : rules_heads.Head) → offset_width k ≡ offset_bytes h.format → body_size (layout k) h ≡ body_bytes k h.rows
+size_is : (k : Kind) (h : rules_heads.Head) → offset_width k ≡ offset_bytes h.format → body_size (layout k) h ≡ body_by (layout k) (offset_width k) h.rows
 size_is (Primitive One) h o = refl
 size_is (Primitive Two) h o = refl
 size_is (Primitive Four) h o = refl
@@ -73,7 +73,7 @@ size_is Struct h o = refl
 size_is RunEnds h o = refl
 size_is (FixedList size) h o = refl
 
-mask_filled : (parcel : List ℕ) (m : Option Part) (rows : ℕ) → MaskWithin parcel m → mask_fills rows (mask_of parcel m) ≡ true → MaskFilled m rows
+mask_filled : (parcel : List ℕ) (m : Option Part) (rows : ℕ) → MaskWithin parcel m → mask_fills rows (mask_of parcel m) ≡ true → MaskFilled rows m
 mask_filled parcel None rows w e = tt
 mask_filled parcel (Some p) rows w e = sym (part_length parcel p w) ∙ eqb-true (length (within parcel p)) (bytes_for rows) e
 

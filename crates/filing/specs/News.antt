@@ -1,7 +1,6 @@
 -- What a node adds to the pools.
-use Rattle.std.specs.Prelude.{◌≡◌, ℕ, ◌+◌, List, [], ◌∷◌, ◌++◌, map, length, Some, None, Option}
+use Rattle.std.specs.Prelude.{ℕ, ◌+◌, List, [], ◌∷◌, ◌++◌, map, length}
 use Rattle.formats.specs.Spelled.{wide_bytes}
-use Rattle.columns.specs.Column.{bytes_for}
 use Rattle.columns.specs.Contents.{values_in}
 use Rattle.columns.specs.Sent.{number_of}
 use Rattle.pools.specs.declared.records.Part.{Part}
@@ -17,7 +16,7 @@ use Rattle.parcels.specs.Lent.{data_from, brought_from}
 use Rattle.pools.specs.Laid.{halves_in, entries_in}
 use Rattle.filing.specs.Lent.{flat, parts_from}
 use Rattle.filing.specs.Masks.{mask_len, mask_sent, mask_at}
-use Rattle.filing.specs.Plans.{Plan, plan_of, place_in, body_bytes}
+use Rattle.filing.specs.Plans.{Plan, plan_of, place_in}
 
 pub record News : Type 0 where
   pub columns : List ColumnEntry
@@ -56,15 +55,6 @@ pub record Gained (p : Pools) (new : News) (q : Pools) : Type 0 where
   pub views : Gains p.views new.views q.views
   pub lists : Gains p.lists new.lists q.lists
   pub buffers : Gains p.buffers new.buffers q.buffers
-
--- a mask and a body that are filled exactly
-abbrev pub MaskFilled : Option Part → (rows : ℕ) → Type 0
-MaskFilled None n = Unit {0}
-MaskFilled (Some p) n = p.len ≡ bytes_for n
-
-pub record Filled (d : Draft) : Type 0 where
-  pub mask : MaskFilled d.parts.mask d.head.rows
-  pub body : d.parts.body.len ≡ body_bytes d.kind d.head.rows
 
 abbrev pub plan_in : Draft → Plan
 plan_in d = plan_of d.kind d.parts d.head.rows

@@ -1,10 +1,8 @@
 -- How a node's buffers are taken, by its kind.
-use Rattle.std.specs.Prelude.{ℕ, ◌+◌, ◌*◌, Bool, false}
+use Rattle.std.specs.Prelude.{ℕ, ◌+◌, Bool, false}
 use Rattle.formats.specs.declared.format.Width.TheVariants.{One, Two, Four, Eight}
 use Rattle.formats.specs.declared.kind.Kind.{Kind}
 use Rattle.formats.specs.declared.kind.Kind.TheVariants.{Primitive, Boolean, Text, View, List, Map, Struct, RunEnds, FixedList}
-use Rattle.formats.specs.Spelled.{wide_bytes}
-use Rattle.columns.specs.Column.{bytes_for}
 use Rattle.pools.specs.declared.records.Part.{Part}
 use Rattle.pools.specs.declared.pools.Marks.{Marks}
 use Rattle.pools.specs.Store.{no_part}
@@ -52,18 +50,3 @@ place_in Map plain m = m.offsets
 place_in Struct plain m = 0
 place_in RunEnds plain m = 0
 place_in (FixedList size) plain m = 0
-
--- the bytes of a body that is filled exactly
-abbrev pub body_bytes : Kind → (rows : ℕ) → ℕ
-body_bytes (Primitive One) n = 1 * n
-body_bytes (Primitive Two) n = 2 * n
-body_bytes (Primitive Four) n = 4 * n
-body_bytes (Primitive Eight) n = 8 * n
-body_bytes Boolean n = bytes_for n
-body_bytes (Text wide) n = wide_bytes wide * (n + 1)
-body_bytes View n = 16 * n
-body_bytes (List wide) n = wide_bytes wide * (n + 1)
-body_bytes Map n = 4 * (n + 1)
-body_bytes Struct n = 0
-body_bytes RunEnds n = 0
-body_bytes (FixedList size) n = 0

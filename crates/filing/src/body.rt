@@ -3,7 +3,8 @@ ghost use Rattle.std.specs.Prelude.{◌≡◌};
 ghost use Rattle.pools.specs.Marked.{marks_of};
 ghost use Rattle.parcels.specs.Reads.{within};
 ghost use Rattle.filing.specs.Plans.{place_in};
-ghost use Rattle.filing.specs.News.{Filled, plan_in};
+ghost use Rattle.filing.specs.News.{plan_in};
+ghost use Rattle.soundness.specs.Sizes.{Filled};
 ghost use Rattle.filing.specs.Bodies.{BodyRoom, BodyGained};
 
 use crate::read::put_entries;

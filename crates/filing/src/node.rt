@@ -1,6 +1,7 @@
 // A node of a parcel into the pools.
 ghost use Rattle.pools.specs.Marked.{marks_of};
-ghost use Rattle.filing.specs.News.{Room, Gained, Filled, node_news};
+ghost use Rattle.filing.specs.News.{Room, Gained, node_news};
+ghost use Rattle.soundness.specs.Sizes.{Filled};
 
 use crate::body::{listed_part, put_body};
 use crate::copy::copy_parts;

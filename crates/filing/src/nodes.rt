@@ -3,7 +3,7 @@ ghost use Rattle.std.specs.Prelude.{◌≡◌, length};
 ghost use Rattle.std.specs.List.{AllByRecursion};
 ghost use Rattle.pools.specs.Kept.{Ready};
 ghost use Rattle.parcels.specs.Drafts.{Drafted};
-ghost use Rattle.filing.specs.News.{Filled};
+ghost use Rattle.soundness.specs.Sizes.{Filled};
 ghost use Rattle.filing.specs.Filed.{Fits, Filed, takes_all};
 
 use crate::node::put_node;
