@@ -1,5 +1,6 @@
 pub mod Numbers
 pub mod Rows
+pub mod Slices
 pub mod Lents
 pub mod Lending
 pub mod Fitting

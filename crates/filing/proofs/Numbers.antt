@@ -22,7 +22,7 @@ use Rattle.soundness.proofs.Chunks.{entries_next}
 -- at a loop over entries: how many are left, and that all are added once they are
 pub record Laying {X Y : Type 0} (R : X → Y → Type 0) (told : List ℕ → X) (size : ℕ) (p q : Pool Y) (all : List X) (left : ℕ) (rest : List ℕ) : Type 0 where
   pub room : Fit q left
-  pub filled : size * left ≤ length rest
+  pub filled : size * left ≡ length rest
   pub then : (r : Pool Y) (more : List Y) → AllZip R (entries_in told size left rest) more → Gains q more r → (new : List Y) × AllZip R all new × Gains p new r
 
 pub laying_more : {X Y : Type 0} {R : X → Y → Type 0} {told : List ℕ → X} {size : ℕ} {p q : Pool Y} {all : List X} (n left : ℕ) (rest x after : List ℕ) (y : Y) (r : Pool Y) → left + 1 ≡ n → rest ≡ x ++ after → length x ≡ size
@@ -37,10 +37,15 @@ laying_more {X} {Y} {R} {told} {size} {p} {q} {all} n left rest x after y r m e 
           here.then t (y ∷ more) (subst (λ (xs : List X). AllZip R xs (y ∷ more)) (sym (entries_next told size left x after l)) (made, a)) (grown_then g h);
     }
 
-pub laying_end : {X Y : Type 0} {R : X → Y → Type 0} {told : List ℕ → X} {size : ℕ} {p q : Pool Y} {all : List X} (n : ℕ) (rest : List ℕ) → (0 < n → length rest < size)
+pub laying_next : {X Y : Type 0} {R : X → Y → Type 0} {told : List ℕ → X} {size : ℕ} {p q : Pool Y} {all : List X} (n : ℕ) (rest x after : List ℕ) (y : Y) (r : Pool Y) → 0 < size → rest ≡ x ++ after → length x ≡ size
+    → R (told (x ++ after)) y → Gains q (y ∷ []) r → Laying R told size p q all n rest → (left : ℕ) × Laying R told size p r all left after
+laying_next {X} {Y} {R} {told} {size} zero rest x after y r p e l made g s = absurd (omega (arith, ap length e, length-append x after, s.filled))
+laying_next (suc m) rest x after y r p e l made g s = (m, laying_more (suc m) m rest x after y r (omega arith) e l made g s)
+
+pub laying_end : {X Y : Type 0} {R : X → Y → Type 0} {told : List ℕ → X} {size : ℕ} {p q : Pool Y} {all : List X} (n : ℕ) (rest : List ℕ) → length rest < size
     → Laying R told size p q all n rest → (new : List Y) × AllZip R all new × Gains p new q
 laying_end {X} {Y} {R} {told} {size} {p} {q} zero rest h s = s.then q [] tt (grown_none _ _)
-laying_end {X} {Y} {R} {told} {size} (suc m) rest h s = absurd (omega (arith, h (omega arith), s.filled, mul-add size 1 m))
+laying_end {X} {Y} {R} {told} {size} (suc m) rest h s = absurd (omega (arith, h, s.filled, mul-add size 1 m))
 
 -- What was made of entries that are told by their own bytes alone, each the same as its entry, is the entries.
 pub made_same : {X : Type 0} (p q : Pool X) (told : List ℕ → X) (size : ℕ) {m n : ℕ} {bytes body : List ℕ} → m ≡ n → bytes ≡ body → ((b : List ℕ) → told (take size b) ≡ told b)

@@ -7,7 +7,7 @@ ghost use Rattle.pools.specs.Used.{Fit, Gains};
 use pools::laid::Laid;
 use pools::pool::Pool;
 
-// Adds so many entries, each made of what lies in the buffer for it, and says where they start.
+// Adds as many entries as the buffer has, each made of what lies there for it, and says where they start.
 pub(crate) fn put_entries<T: Laid, E: From<T> + Copy>(
     pool: &mut Pool<'_, E>,
     body: &[u8],
@@ -15,12 +15,12 @@ pub(crate) fn put_entries<T: Laid, E: From<T> + Copy>(
 ) -> usize
     requires sized { 0 < T.SIZE }
     requires room { Fit pool.old count }
-    requires filled { T.SIZE * count ≤ length body.now }
+    requires filled { T.SIZE * count ≡ length body.now }
     ensures added { (new : List _) × AllZip E.from_gives (entries_in (λ bytes. T.told (take T.SIZE bytes)) T.SIZE count body.now) new × Gains pool.old new pool.new }
     ensures start { result ≡ pool.old.mark }
 {
     let start = pool.mark;
-    for entry in body.chunks_exact(T::SIZE).take(count) {
+    for entry in body.chunks_exact(T::SIZE) {
         pool.append(E::from(T::first_of(entry)));
     }
     start

@@ -1,6 +1,7 @@
 pub mod Inking
 pub mod Digits
 pub mod Pens
+pub mod Slices
 pub mod Texts
 pub mod Views
 pub mod Walks

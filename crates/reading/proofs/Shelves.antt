@@ -1,7 +1,8 @@
 -- Rows of the columns of a shelf that the pools show, and the answers of the ledger about them.
-use Rattle.std.proofs.Common.{◌≡◌, ℕ, ◌<◌, ◌≤◌, Bool, true, ltb, leb, List, [], length, get_or, Some, None, Ok, Err, Option, Bor, sym, ap, ◌∙◌, subst, arith, ltb-true, lt-ltb, le-leb}
+use Rattle.std.proofs.Common.{◌≡◌, ℕ, ◌<◌, ◌≤◌, Bool, true, ltb, leb, List, [], length, get_or, Some, None, Ok, Err, Option, Bor, sym, ap, ◌∙◌, subst, arith, ltb-true, lt-ltb, le-ltb, le-leb}
 use mathlib.Core.Option.{none}
 use borrow.Author.Tests.{lt-leb}
+use Rattle.std.proofs.lemmas.List.{length-take-le}
 use Rattle.columns.specs.Column.{rows_of}
 use Rattle.columns.specs.Checks.{denial, unless, denied_or}
 use Rattle.columns.specs.Ledger as ledger
@@ -11,6 +12,9 @@ use Rattle.columns.specs.Pools.{Entries}
 use Rattle.columns.specs.Says.{says}
 use Rattle.columns.specs.Sound.{Sound}
 use Rattle.columns.specs.Text.{text}
+use Rattle.pools.specs.declared.pool.Pool.{Pool}
+use Rattle.pools.specs.Used.{used}
+use Rattle.pools.specs.Kept.{Standing}
 use Rattle.pools.specs.declared.records.Node.{Node as Entry}
 use Rattle.pools.specs.declared.records.ColumnEntry.{ColumnEntry}
 use Rattle.pools.specs.Store.{Store, no_column as no_entry, root_of, node_entry}
@@ -21,18 +25,21 @@ use Rattle.std.specs.Option.{is_some, unwrap_or, option_map, ok_or}
 use Rattle.denials.specs.declared.Denial.TheVariants.{Text}
 use Rattle.reading.specs.Answers.{ShelfReadable, Placed, Gives}
 
+pub used_to_mark : {X : Type 0} (p : Pool X) → Standing p → length (used p) ≡ p.mark
+used_to_mark p h = length-take-le p.mark p.lent.now h.fits
+
 -- which columns there are
 pub known_column : {P : Store} {s : Shelf} (j : ℕ) → ShelfReadable P s → j < length P.columns → j < length s.columns
 known_column j r l = let b = r.shows.columns.count in omega arith
 
-stored_at : {P : Store} {s : Shelf} (j : ℕ) → ShelfReadable P s → j < length s.columns → Stored P (root_of P j) (column_at s j)
+pub stored_at : {P : Store} {s : Shelf} (j : ℕ) → ShelfReadable P s → j < length s.columns → Stored P (root_of P j) (column_at s j)
 stored_at j r l = r.shows.columns.stored j l
 
 -- how many rows the node of a column has
 rows_at : {P : Store} {s : Shelf} (j : ℕ) → ShelfReadable P s → j < length s.columns → (node_entry P (root_of P j)).rows ≡ rows_of (column_at s j)
 rows_at {P} {s} j r l = (stored_node P (root_of P j) (column_at s j) (stored_at j r l)).1.is_rows
 
-root_known : {P : Store} {s : Shelf} (j : ℕ) → ShelfReadable P s → j < length s.columns → root_of P j < length P.nodes
+pub root_known : {P : Store} {s : Shelf} (j : ℕ) → ShelfReadable P s → j < length s.columns → root_of P j < length P.nodes
 root_known {P} {s} j r l = (stored_node P (root_of P j) (column_at s j) (stored_at j r l)).0
 
 -- an entry that `get` found in its place
@@ -53,7 +60,7 @@ found {xs} {columns} {j} u v n o r =
 pub found_root : {P : Store} {s : Shelf} (j : ℕ) {e : ColumnEntry} → ShelfReadable P s → Found P.columns j e → e.root < length P.nodes
 found_root {P} j r f = subst (λ (x : ColumnEntry). x.root < length P.nodes) (sym f.is) (root_known j r (known_column j r f.there))
 
-row_readable : {P : Store} {s : Shelf} (j i : ℕ) → ShelfReadable P s → j < length s.columns → i < rows_of (column_at s j) → RowReadable P (root_of P j) (column_at s j) i most_levels
+pub row_readable : {P : Store} {s : Shelf} (j i : ℕ) → ShelfReadable P s → j < length s.columns → i < rows_of (column_at s j) → RowReadable P (root_of P j) (column_at s j) i most_levels
 row_readable {P} {s} j i r l h =
     record {
       column = record {
@@ -82,13 +89,22 @@ same_text {P} {s} j i r = ap (λ (bs : List (List ℕ)). text (says (λ b. get_o
 abbrev ladder : (j i room : ℕ) → Answer → Bool → Bool → Bool → Answer
 ladder j i room a known inside fits = unless_denied (denied_or 11 (unless known j) (denied_or 7 (unless inside i) (denied_or 10 (unless fits room) none))) a
 
-text_longer : (lengths : Entries) (s : Shelf) (j i room : ℕ) → j < length s.columns → i < rows_of (column_at s j) → room < length (ledger.row_text s j i) → answer lengths s (reads j i room) ≡ refused (denial 10 room)
+pub no_column : (lengths : Entries) (s : Shelf) (j i room : ℕ) → length s.columns ≤ j → answer lengths s (reads j i room) ≡ refused (denial 11 j)
+no_column lengths s j i room l =
+    ap (λ b. ladder j i room (wrote (ledger.row_text s j i)) b (ltb i (rows_of (column_at s j))) (leb (length (ledger.row_text s j i)) room)) (le-ltb j (length s.columns) l)
+
+pub row_outside : (lengths : Entries) (s : Shelf) (j i room : ℕ) → j < length s.columns → rows_of (column_at s j) ≤ i → answer lengths s (reads j i room) ≡ refused (denial 7 i)
+row_outside lengths s j i room l h =
+    ap (λ b. ladder j i room (wrote (ledger.row_text s j i)) b (ltb i (rows_of (column_at s j))) (leb (length (ledger.row_text s j i)) room)) (lt-ltb j (length s.columns) l)
+    ∙ ap (λ b. ladder j i room (wrote (ledger.row_text s j i)) true b (leb (length (ledger.row_text s j i)) room)) (le-ltb i (rows_of (column_at s j)) h)
+
+pub text_longer : (lengths : Entries) (s : Shelf) (j i room : ℕ) → j < length s.columns → i < rows_of (column_at s j) → room < length (ledger.row_text s j i) → answer lengths s (reads j i room) ≡ refused (denial 10 room)
 text_longer lengths s j i room l h f =
     ap (λ b. ladder j i room (wrote (ledger.row_text s j i)) b (ltb i (rows_of (column_at s j))) (leb (length (ledger.row_text s j i)) room)) (lt-ltb j (length s.columns) l)
     ∙ ap (λ b. ladder j i room (wrote (ledger.row_text s j i)) true b (leb (length (ledger.row_text s j i)) room)) (lt-ltb i (rows_of (column_at s j)) h)
     ∙ ap (λ b. ladder j i room (wrote (ledger.row_text s j i)) true true b) (lt-leb (length (ledger.row_text s j i)) room f)
 
-text_fits : (lengths : Entries) (s : Shelf) (j i room : ℕ) → j < length s.columns → i < rows_of (column_at s j) → length (ledger.row_text s j i) ≤ room → answer lengths s (reads j i room) ≡ wrote (ledger.row_text s j i)
+pub text_fits : (lengths : Entries) (s : Shelf) (j i room : ℕ) → j < length s.columns → i < rows_of (column_at s j) → length (ledger.row_text s j i) ≤ room → answer lengths s (reads j i room) ≡ wrote (ledger.row_text s j i)
 text_fits lengths s j i room l h f =
     ap (λ b. ladder j i room (wrote (ledger.row_text s j i)) b (ltb i (rows_of (column_at s j))) (leb (length (ledger.row_text s j i)) room)) (lt-ltb j (length s.columns) l)
     ∙ ap (λ b. ladder j i room (wrote (ledger.row_text s j i)) true b (leb (length (ledger.row_text s j i)) room)) (lt-ltb i (rows_of (column_at s j)) h)

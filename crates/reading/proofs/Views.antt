@@ -6,6 +6,7 @@ use Rattle.std.proofs.lemmas.List.{take-append-le, append-nil, append_assoc, get
 use Rattle.std.proofs.ByRecursion.{All-get_or}
 use Rattle.std.proofs.lemmas.Bool.{cases_lt}
 use Rattle.formats.specs.declared.format.Width.{Width}
+use Rattle.formats.specs.declared.format.Width.TheVariants.{One, Two, Four, Eight}
 use Rattle.formats.specs.declared.kind.Kind.{Kind}
 use Rattle.formats.specs.declared.kind.Kind.TheVariants.{Primitive, Boolean, Text, View as Viewed, List as Listed, Map, Struct, RunEnds, FixedList}
 use Rattle.columns.specs.Column.{short, long}
@@ -13,14 +14,15 @@ use Rattle.columns.specs.Bytes.{le_bytes}
 use Rattle.columns.specs.Says.{slice, view_text}
 use Rattle.columns.specs.Sound.{ViewSound}
 use Rattle.pools.specs.declared.pool.Pool.{Pool}
+use Rattle.pools.specs.declared.pools.Pools.{Pools}
 use Rattle.pools.specs.declared.records.Part.{Part}
 use Rattle.pools.specs.declared.records.View.{View as Halves}
 use Rattle.pools.specs.declared.records.Node.{Node as Entry}
 use Rattle.pools.specs.Used.{used}
-use Rattle.pools.specs.Kept.{Standing}
+use Rattle.pools.specs.Kept.{Standing, Ready}
 use Rattle.pools.specs.Parts.{part_of, Inside, buffers_in}
-use Rattle.pools.specs.Store.{Store, Segment, no_part}
-use Rattle.pools.specs.Held.{view_from}
+use Rattle.pools.specs.Store.{Store, store, Segment, no_part}
+use Rattle.pools.specs.Held.{values_pool, view_from}
 use Rattle.pools.proofs.Fronts.{segment_at, segment_length, segment_part}
 use Rattle.rows.specs.declared.views.ViewParts.{ViewParts}
 use Rattle.rows.specs.declared.views.ViewParts.TheVariants.{Inline, Buffered}
@@ -31,6 +33,12 @@ use Rattle.reading.specs.Raw.{buffer_in, inline, viewed, quoted, ViewIn, leaf_te
 
 pub few : {X : Type 0} (p : Pool X) → Standing p → length (used p) ≤ 1048576
 few p s = let e = length-take p.mark p.lent.now in let c = s.capped in omega arith
+
+pub few_values : (p : Pools) (w : Width) → Ready p → length (values_pool (store p) w) ≤ 1048576
+few_values p One r = few p.bytes r.bytes
+few_values p Two r = few p.shorts r.shorts
+few_values p Four r = few p.words r.words
+few_values p Eight r = few p.longs r.longs
 
 pub joined_both : {X Y : Type 0} (f : X → List Y) (xs ys : List X) (zs : List Y) → flat_map f xs ++ (flat_map f ys ++ zs) ≡ flat_map f (xs ++ ys) ++ zs
 joined_both f [] ys zs = refl

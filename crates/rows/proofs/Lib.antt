@@ -1,4 +1,5 @@
 pub mod Ranging
 pub mod Viewing
 pub mod Entries
+pub mod Helds
 pub mod Buffered

@@ -1,5 +1,5 @@
 use Rattle.std.proofs.Common.{◌≡◌, ℕ, zero, suc, ◌+◌, ◌-◌, ◌<◌, Bool, true, false, not, ◌&&◌, ◌||◌, eqb, ltb, leb, cond, List, [], ◌∷◌, map, length, get_or, Some, None, Option, refl, sym, ap, ◌∙◌, inl, inr, arith}
-use Rattle.std.proofs.lemmas.List.{length-map}
+use Rattle.std.proofs.lemmas.List.{get_or-map, length-map}
 use Rattle.std.proofs.lemmas.Bool.{le-leb, lt-leb, lt-ltb, le-ltb, cases_lt}
 use Rattle.std.specs.List.{list_all, range_with_len}
 use Rattle.columns.specs.Says.{span}
@@ -19,8 +19,16 @@ get_or_span a (suc n) (suc i) h = get_or_span (suc a) n i (omega arith) ∙ omeg
 pub length_values : (w n : ℕ) (bytes : List ℕ) → length (values_in w n bytes) ≡ n
 length_values w n bytes = length-map (span 0 n) (value_at w bytes) ∙ length_span 0 n
 
+pub get_or_values : (w n i : ℕ) (bytes : List ℕ) → i < n → get_or (values_in w n bytes) i 0 ≡ value_at w bytes i
+get_or_values w n i bytes h =
+    get_or-map (value_at w bytes) (span 0 n) i 0 0 (rw length_span h) ∙ ap (value_at w bytes) (get_or_span 0 n i h ∙ omega arith)
+
 pub length_bits : (n : ℕ) (bytes : List ℕ) → length (bits_in n bytes) ≡ n
 length_bits n bytes = length-map (span 0 n) (bit_at bytes) ∙ length_span 0 n
+
+pub get_or_bits : (n i : ℕ) (bytes : List ℕ) → i < n → get_or (bits_in n bytes) i false ≡ bit_at bytes i
+get_or_bits n i bytes h =
+    get_or-map (bit_at bytes) (span 0 n) i 0 false (rw length_span h) ∙ ap (bit_at bytes) (get_or_span 0 n i h ∙ omega arith)
 
 -- offsets that are walked
 abbrev pub and_some : Option ℕ → (ℕ → Bool) → Bool

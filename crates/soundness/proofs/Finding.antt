@@ -1,6 +1,6 @@
 use Rattle.std.proofs.Common.{◌≡◌, ℕ, ◌+◌, ◌*◌, ◌/◌, ◌%◌, ◌^◌, ◌<◌, ◌≤◌, min, Bool, true, cond, ◌&&◌, eqb, ltb, leb, List, [], ◌∷◌, length, Some, None, Option, get_or, drop, set, sym, ap, ◌∙◌, subst, inl, inr, div-lt_iff_lt-mul, div-add-mod', mul-div_cancel, arith}
 use Rattle.std.proofs.Math.Nat.{add-mul, min-le_left}
-use Rattle.std.proofs.lemmas.List.{drop_more, drop_all, length-map, get_or-set_same, get_or-set_other, length-drop}
+use Rattle.std.proofs.lemmas.List.{drop_more, drop_all, get_or-map, length-map, get_or-set_same, get_or-set_other, length-drop}
 use Rattle.std.proofs.lemmas.Bool.{lt-ltb, cond-true, cases_eq, cases_lt}
 use Rattle.std.specs.List.{slice_get}
 use Rattle.std.specs.declared.iter.StepBy.{StepBy}
@@ -10,7 +10,7 @@ use Rattle.std.proofs.lemmas.Iterator.Adapters.{option_map_id}
 use Rattle.std.proofs.lemmas.Iterator.Consumers.{YieldsList-from_first, nth_from_yields_List}
 use Rattle.soundness.specs.declared.data_buffers.DataBuffers.{DataBuffers}
 use Rattle.std.proofs.lemmas.Option.{slice_get-get_or}
-use Rattle.columns.specs.Column.{short, long, view_of}
+use Rattle.columns.specs.Column.{View, short, long, view_of}
 use Rattle.columns.specs.Says.{span, slice}
 use Rattle.columns.specs.Sound.{little_endian}
 use Rattle.columns.specs.Contents.{value_at, view_in, views_in}
@@ -21,6 +21,7 @@ use Rattle.parcels.proofs.Lents.{place_place, readable_part}
 use Rattle.soundness.specs.declared.places.Places.{Places}
 use Rattle.soundness.specs.declared.sent.DataBuffer.{DataBuffer}
 use Rattle.soundness.specs.Buffers.{buffer_in, buffers_from}
+use Rattle.soundness.proofs.Falls.{get_or_span}
 use Rattle.soundness.proofs.Buffers.{length_buffers, get_or_buffers}
 use Rattle.soundness.specs.Sources.{Indexed, view_fine}
 
@@ -152,3 +153,10 @@ module _ (source : ℕ → List ℕ) (count : ℕ) (view : List ℕ) (len prefix
 
 pub length_views : (n : ℕ) (bytes : List ℕ) → length (views_in n bytes) ≡ n
 length_views n bytes = length-map (span 0 n) (λ i. view_in (slice bytes (16 * i) 16)) ∙ length_span 0 n
+
+abbrev none : View
+none = short 0 []
+
+pub get_or_views : (n i : ℕ) (bytes : List ℕ) → i < n → get_or (views_in n bytes) i none ≡ view_in (slice bytes (16 * i) 16)
+get_or_views n i bytes h =
+    get_or-map (λ (j : ℕ). view_in (slice bytes (16 * j) 16)) (span 0 n) i 0 none (rw length_span h) ∙ ap (λ (j : ℕ). view_in (slice bytes (16 * j) 16)) (get_or_span 0 n i h ∙ omega arith)

@@ -1,5 +1,4 @@
 use Rattle.std.proofs.Common.{◌≡◌, ℕ, List, take}
-use Rattle.std.specs.Iterator.Adapters.{take_source, take_count}
 use Rattle.std.specs.Slice.Iter.{chunks_exact_rest, chunks_exact_size}
 use Rattle.pools.specs.Laid.{entries_in}
 use Rattle.filing.proofs.Numbers.{Laying}
@@ -11,6 +10,6 @@ invariant-loop-entry g l =
     record {
       can : (goal.iterator-loop-entry g).can_next it;
       finite : (goal.iterator-loop-entry g).is_finite it;
-      size : chunks_exact_size (take_source it) ≡ g.T.Laid.SIZE;
-      laying : Laying g.E.From.from_gives (λ (b : List ℕ). g.T.Laid.told (take g.T.Laid.SIZE b)) g.T.Laid.SIZE l.initial.pool l.pool (entries_in (λ (b : List ℕ). g.T.Laid.told (take g.T.Laid.SIZE b)) g.T.Laid.SIZE l.count l.body) (take_count it) (chunks_exact_rest (take_source it));
+      size : chunks_exact_size it ≡ g.T.Laid.SIZE;
+      laying : (left : ℕ) × Laying g.E.From.from_gives (λ (b : List ℕ). g.T.Laid.told (take g.T.Laid.SIZE b)) g.T.Laid.SIZE l.initial.pool l.pool (entries_in (λ (b : List ℕ). g.T.Laid.told (take g.T.Laid.SIZE b)) g.T.Laid.SIZE l.count l.body) left (chunks_exact_rest it);
     }

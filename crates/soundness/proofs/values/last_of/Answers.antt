@@ -1,7 +1,7 @@
 use Rattle.std.proofs.Common.{true, false, sym, subst, ◌<◌, ◌∙◌}
 use Rattle.formats.specs.Spelled.{bytes_of}
 use Rattle.soundness.proofs.Chunks.{walk_stops, walk_goes}
-use Rattle.soundness.proofs.values.last_in_order.Goals as goal
+use Rattle.soundness.proofs.values.last_of.Goals as goal
 
 pub returns-then-not-follows : goal.returns-then-not-follows
 returns-then-not-follows g c = λ test k.

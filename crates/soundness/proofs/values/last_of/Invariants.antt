@@ -1,7 +1,7 @@
 use Rattle.std.proofs.Common.{◌≡◌, ℕ, Bool}
 use Rattle.formats.specs.Spelled.{bytes_of}
 use Rattle.soundness.specs.Walks.{all_values, walked}
-use Rattle.soundness.proofs.values.last_in_order.Given as goal
+use Rattle.soundness.proofs.values.last_of.Given as goal
 
 abbrev pub invariant-loop-entry : goal.invariant-loop-entry
 invariant-loop-entry g l = record {
