@@ -1,5 +1,5 @@
 -- Entries that lie in a part of a parcel.
-use Rattle.std.proofs.Common.{◌≡◌, ℕ, zero, suc, ◌+◌, ◌*◌, ◌<◌, ◌≤◌, List, [], ◌∷◌, ◌++◌, map, length, take, drop, sym, refl, ap, ◌∙◌, subst, subst₂, ap₂, arith, length-append, length-drop}
+use Rattle.std.proofs.Common.{◌≡◌, ℕ, zero, suc, ◌+◌, ◌*◌, ◌<◌, ◌≤◌, List, [], ◌∷◌, ◌++◌, map, length, take, drop, set, sym, refl, ap, ◌∙◌, subst, ap₂, arith, length-append, length-drop}
 use Rattle.std.specs.List.{AllZip, each_same}
 use Rattle.std.proofs.Math.Nat.{mul-add}
 use Rattle.std.proofs.lemmas.List.{take-take, drop-take, take-append-drop, length-take-le}
@@ -15,37 +15,45 @@ use Rattle.pools.specs.declared.records.View.{View as Halves}
 use Rattle.pools.specs.declared.pool.Pool.{Pool}
 use Rattle.pools.specs.Laid.{number_in, halves_in, entries_in}
 use Rattle.pools.specs.Held.{view_from}
-use Rattle.pools.specs.Used.{Fit, Gains}
-use Rattle.pools.proofs.Growing.{grown_none, grown_then}
+use Rattle.pools.specs.Used.{Gains}
+use Rattle.pools.specs.Grown.{most_entries, Grown}
+use Rattle.pools.proofs.Growing.{grown_none, grown_one, grown_then}
 use Rattle.soundness.proofs.Chunks.{entries_next}
 
--- at a loop over entries: how many are left, and that all are added once they are
-pub record Laying {X Y : Type 0} (R : X → Y → Type 0) (told : List ℕ → X) (size : ℕ) (p q : Pool Y) (all : List X) (left : ℕ) (rest : List ℕ) : Type 0 where
-  pub room : Fit q left
+-- at a loop over entries that has come to mark m over xs: how many are left, and that all are added once they are
+pub record Laying {X Y : Type 0} (R : X → Y → Type 0) (told : List ℕ → X) (size : ℕ) (p : Pool Y) (m : ℕ) (xs : List Y) (all : List X) (left : ℕ) (rest : List ℕ) : Type 0 where
+  pub lent : m + left ≤ length xs
+  pub capped : m + left ≤ most_entries
   pub filled : size * left ≡ length rest
-  pub then : (r : Pool Y) (more : List Y) → AllZip R (entries_in told size left rest) more → Gains q more r → (new : List Y) × AllZip R all new × Gains p new r
+  pub then : (n : ℕ) (ys more : List Y) → AllZip R (entries_in told size left rest) more → Grown m xs more n ys → (new : List Y) × AllZip R all new × Grown p.mark p.lent.now new n ys
 
-pub laying_more : {X Y : Type 0} {R : X → Y → Type 0} {told : List ℕ → X} {size : ℕ} {p q : Pool Y} {all : List X} (n left : ℕ) (rest x after : List ℕ) (y : Y) (r : Pool Y) → left + 1 ≡ n → rest ≡ x ++ after → length x ≡ size
-    → R (told (x ++ after)) y → Gains q (y ∷ []) r → Laying R told size p q all n rest → Laying R told size p r all left after
-laying_more {X} {Y} {R} {told} {size} {p} {q} {all} n left rest x after y r m e l made g s =
-    let here : Laying R told size p q all (suc left) (x ++ after) =
-    subst₂ (λ (k : ℕ) (bytes : List ℕ). Laying R told size p q all k bytes) (let z : n ≡ suc left = omega arith in z) e s in
+pub laying_more : {X Y : Type 0} {R : X → Y → Type 0} {told : List ℕ → X} {size : ℕ} {p : Pool Y} {m : ℕ} {xs : List Y} {all : List X} (left : ℕ) (rest x after : List ℕ) (y : Y) (ys : List Y) → rest ≡ x ++ after → length x ≡ size
+    → R (told (x ++ after)) y → ys ≡ set xs m y → Laying R told size p m xs all (suc left) rest → Laying R told size p (m + 1) ys all left after
+laying_more {X} {Y} {R} {told} {size} {p} {m} {xs} {all} left rest x after y ys e l made g s =
+    let here : Laying R told size p m xs all (suc left) (x ++ after) = subst (λ (bytes : List ℕ). Laying R told size p m xs all (suc left) bytes) e s in
+    let one : Grown m xs (y ∷ []) (m + 1) ys = grown_one m xs y ys (let h = here.lent in omega arith) g in
     record {
-      room = (let h = here.room.lent in let k = here.room.capped in let a = g.mark in let b = g.len in record { lent = omega arith; capped = omega arith });
+      lent = (let h = here.lent in let b = one.len in omega arith);
+      capped = (let k = here.capped in omega arith);
       filled = (let h = here.filled in let k = length-append x after in let z = mul-add size 1 left in omega arith);
-      then = λ t more a h.
-          here.then t (y ∷ more) (subst (λ (xs : List X). AllZip R xs (y ∷ more)) (sym (entries_next told size left x after l)) (made, a)) (grown_then g h);
+      then = λ n zs more a h. here.then n zs (y ∷ more) (subst (λ (es : List X). AllZip R es (y ∷ more)) (sym (entries_next told size left x after l)) (made, a)) (grown_then one h);
     }
 
-pub laying_next : {X Y : Type 0} {R : X → Y → Type 0} {told : List ℕ → X} {size : ℕ} {p q : Pool Y} {all : List X} (n : ℕ) (rest x after : List ℕ) (y : Y) (r : Pool Y) → 0 < size → rest ≡ x ++ after → length x ≡ size
-    → R (told (x ++ after)) y → Gains q (y ∷ []) r → Laying R told size p q all n rest → (left : ℕ) × Laying R told size p r all left after
-laying_next {X} {Y} {R} {told} {size} zero rest x after y r p e l made g s = absurd (omega (arith, ap length e, length-append x after, s.filled))
-laying_next (suc m) rest x after y r p e l made g s = (m, laying_more (suc m) m rest x after y r (omega arith) e l made g s)
+pub laying_next : {X Y : Type 0} {R : X → Y → Type 0} {told : List ℕ → X} {size : ℕ} {p : Pool Y} {m : ℕ} {xs : List Y} {all : List X} (n : ℕ) (rest x after : List ℕ) (y : Y) (ys : List Y) → 0 < size → rest ≡ x ++ after → length x ≡ size
+    → R (told (x ++ after)) y → ys ≡ set xs m y → Laying R told size p m xs all n rest → (left : ℕ) × Laying R told size p (m + 1) ys all left after
+laying_next {X} {Y} {R} {told} {size} zero rest x after y ys p e l made g s = absurd (omega (arith, ap length e, length-append x after, s.filled))
+laying_next (suc m) rest x after y ys p e l made g s = (m, laying_more m rest x after y ys e l made g s)
 
-pub laying_end : {X Y : Type 0} {R : X → Y → Type 0} {told : List ℕ → X} {size : ℕ} {p q : Pool Y} {all : List X} (n : ℕ) (rest : List ℕ) → length rest < size
-    → Laying R told size p q all n rest → (new : List Y) × AllZip R all new × Gains p new q
-laying_end {X} {Y} {R} {told} {size} {p} {q} zero rest h s = s.then q [] tt (grown_none _ _)
-laying_end {X} {Y} {R} {told} {size} (suc m) rest h s = absurd (omega (arith, h, s.filled, mul-add size 1 m))
+-- one more has room
+pub laying_room : {X Y : Type 0} {R : X → Y → Type 0} {told : List ℕ → X} {size : ℕ} {p : Pool Y} {m : ℕ} {xs : List Y} {all : List X} (n : ℕ) (rest x after : List ℕ) → 0 < size → rest ≡ x ++ after → length x ≡ size
+    → Laying R told size p m xs all n rest → m < length xs
+laying_room zero rest x after h e l s = absurd (omega (arith, ap length e, length-append x after, s.filled))
+laying_room (suc n) rest x after h e l s = let k = s.lent in omega arith
+
+pub laying_end : {X Y : Type 0} {R : X → Y → Type 0} {told : List ℕ → X} {size : ℕ} {p : Pool Y} {m : ℕ} {xs : List Y} {all : List X} (n : ℕ) (rest : List ℕ) → length rest < size
+    → Laying R told size p m xs all n rest → (new : List Y) × AllZip R all new × Grown p.mark p.lent.now new m xs
+laying_end {X} {Y} {R} {told} {size} {p} {m} {xs} zero rest h s = s.then m xs [] tt (grown_none _ _)
+laying_end {X} {Y} {R} {told} {size} (suc n) rest h s = absurd (omega (arith, h, s.filled, mul-add size 1 n))
 
 -- What was made of entries that are told by their own bytes alone, each the same as its entry, is the entries.
 pub made_same : {X : Type 0} (p q : Pool X) (told : List ℕ → X) (size : ℕ) {m n : ℕ} {bytes body : List ℕ} → m ≡ n → bytes ≡ body → ((b : List ℕ) → told (take size b) ≡ told b)

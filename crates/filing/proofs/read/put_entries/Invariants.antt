@@ -11,5 +11,5 @@ invariant-loop-entry g l =
       can : (goal.iterator-loop-entry g).can_next it;
       finite : (goal.iterator-loop-entry g).is_finite it;
       size : chunks_exact_size it ≡ g.T.Laid.SIZE;
-      laying : (left : ℕ) × Laying g.E.From.from_gives (λ (b : List ℕ). g.T.Laid.told (take g.T.Laid.SIZE b)) g.T.Laid.SIZE l.initial.pool l.pool (entries_in (λ (b : List ℕ). g.T.Laid.told (take g.T.Laid.SIZE b)) g.T.Laid.SIZE l.count l.body) left (chunks_exact_rest it);
+      laying : (left : ℕ) × Laying g.E.From.from_gives (λ (b : List ℕ). g.T.Laid.told (take g.T.Laid.SIZE b)) g.T.Laid.SIZE l.initial.pool l.mark l.pool.lent.now (entries_in (λ (b : List ℕ). g.T.Laid.told (take g.T.Laid.SIZE b)) g.T.Laid.SIZE l.count l.body) left (chunks_exact_rest it);
     }
