@@ -51,6 +51,10 @@ module _ (parcel : List ℕ) (lent : Part) (x : Places) (i : Indexed parcel lent
   found_readable r =
       subst (λ (at : ℕ). readable parcel at (k % x.stride + 1) ≡ true) (sym before) (readable_part parcel lent.start lent.len (k / x.stride * x.stride) (k % x.stride + 1) r (omega (arith, whole)))
 
+  pub steps_readable : readable parcel lent.start lent.len ≡ true → readable parcel (get_or x.marks (k / x.stride) 0) (k % x.stride) ≡ true
+  steps_readable r =
+      subst (λ (at : ℕ). readable parcel at (k % x.stride) ≡ true) (sym before) (readable_part parcel lent.start lent.len (k / x.stride * x.stride) (k % x.stride) r (omega (arith, whole)))
+
   pub found_is : place_of parcel (get_or x.marks (k / x.stride) 0) (k % x.stride) ≡ place_of parcel lent.start k
   found_is =
       ap (λ (at : ℕ). place_of parcel at (k % x.stride)) before ∙ place_place parcel lent.start (k / x.stride * x.stride) (k % x.stride) ∙ ap (place_of parcel lent.start) whole

@@ -1,11 +1,10 @@
 ghost use Rattle.soundness.specs.Sources.{Indexed};
 ghost use Rattle.soundness.specs.Props.{indexed_prop};
 
-use crate::data_buffers::DataBuffers;
+use crate::lents::{sent_at, skip};
 use crate::node::SentNode;
 use crate::places::Places;
 use crate::sent::DataBuffer;
-use pools::records::Part;
 
 // A node with the places of some of its data buffers, so that each of them is found in a few steps.
 #[derive(Drop)]
@@ -42,12 +41,10 @@ impl<'a> Index<'a> {
         ensures { result ≡ buffer_in self.now.node.parcel.now (place_of self.now.node.parcel.now self.now.node.draft.parts.lent.start position) }
     {
         let start = self.places.marks[position / self.places.stride];
-        let steps = position % self.places.stride;
-        let part = Part {
-            start,
-            len: steps + 1,
-        };
-        let mut ahead = DataBuffers::of(self.node.parcel, part);
-        ahead.nth(steps).unwrap()
+        let at = skip(self.node.parcel, start, position % self.places.stride);
+        DataBuffer {
+            at,
+            sent: sent_at(self.node.parcel, at),
+        }
     }
 }
