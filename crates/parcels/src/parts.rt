@@ -30,7 +30,8 @@ impl Reader<'_> {
         }
     }
 
-    // A data buffer, brought or named.
+    // A data buffer, brought or named. `self.item(sent.size())` was tried: the place after a named one then waits for its number,
+    // and a list of them takes several times as long.
     pub(crate) fn data_buffer(&mut self) -> Result<Sent, Denial>
         ensures reads { (bs : List (List ℕ)) → elim result [
           | Ok x ↦ Reaches self.old.parcel.now self.old.place bs self.new.place (data_buffer (stands self.old bs))
@@ -41,14 +42,21 @@ impl Reader<'_> {
         ensures inside { elim result [ Ok x ↦ SentAt self.old.parcel.now self.old.place.at x | Err d ↦ d ≡ Denial.Ends self.new.place.at ] }
     {
         let sent = Sent::read(self.ahead()).ok_or(Denial::Ends(self.place.at))?;
-        self.item(sent.size())?;
-        if let Sent::Brought(_) = sent {
-            self.place.brought += 1;
+        match sent {
+            Sent::Brought(len) => {
+                self.item(4 + len)?;
+                self.place.brought += 1;
+            }
+            Sent::Named(_) => {
+                self.item(4)?;
+            }
         }
         Ok(sent)
     }
 
-    // So many data buffers, one after another.
+    // So many data buffers, one after another. A reader of its own walks the list, since its place stays in registers where that
+    // of `self` is written at each step, and not inlined, since `node` leaves no registers for it.
+    #[inline(never)]
     fn listed(&mut self, count: usize) -> Result<(), Denial>
         ensures reads { (bs : List (List ℕ)) → elim result [
           | Ok _ ↦ Reaches self.old.parcel.now self.old.place bs self.new.place (each_of (λ (i : ℕ). data_buffer) (span 0 count) (stands self.old bs))
@@ -57,9 +65,17 @@ impl Reader<'_> {
         ensures same { SameNode self.old self.new }
         ensures inside { elim result [ Ok _ ↦ Unit {0} | Err d ↦ d ≡ Denial.Ends self.new.place.at ] }
     {
+        let mut list = Reader {
+            parcel: self.parcel,
+            place: self.place,
+        };
         for _k in 0..count {
-            self.data_buffer()?;
+            if let Err(denial) = list.data_buffer() {
+                self.place = list.place;
+                return Err(denial);
+            }
         }
+        self.place = list.place;
         Ok(())
     }
 

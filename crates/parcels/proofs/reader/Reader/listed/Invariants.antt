@@ -1,4 +1,4 @@
-use Rattle.std.proofs.Common.{ℕ, List}
+use Rattle.std.proofs.Common.{◌≡◌, ℕ, List}
 use Rattle.parcels.specs.Readers.{SameNode}
 use Rattle.parcels.proofs.Walk.{Walked}
 use Rattle.parcels.proofs.reader.Reader.listed.Given as goal
@@ -6,6 +6,7 @@ use Rattle.parcels.proofs.reader.Reader.listed.Given as goal
 abbrev pub invariant-loop-k : goal.invariant-loop-k
 invariant-loop-k l =
     record {
-      walked : (bs : List (List ℕ)) → Walked l.initial.self.parcel.now l.initial.self.place bs l.count l._k l.self.place;
-      same : SameNode l.initial.self l.self;
+      walked : (bs : List (List ℕ)) → Walked l.fn.self.parcel.now l.fn.self.place bs l.count l._k l.list.place;
+      same : SameNode l.fn.self l.list;
+      parcel : l.self.parcel.now ≡ l.fn.self.parcel.now;
     }
