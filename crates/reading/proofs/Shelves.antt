@@ -1,5 +1,5 @@
 -- Rows of the columns of a shelf that the pools show, and the answers of the ledger about them.
-use Rattle.std.proofs.Common.{◌≡◌, ℕ, ◌<◌, ◌≤◌, Bool, true, ltb, leb, List, [], length, get_or, Some, None, Ok, Err, Option, Bor, sym, ap, ◌∙◌, subst, arith, ltb-true, lt-ltb, le-ltb, le-leb}
+use Rattle.std.proofs.Common.{◌≡◌, ℕ, ◌<◌, ◌≤◌, Bool, true, ltb, leb, List, [], length, get_or, Some, None, Ok, Err, Option, Bor, refl, sym, ap, ◌∙◌, subst, arith, ltb-true, lt-ltb, le-ltb, le-leb}
 use mathlib.Core.Option.{none}
 use borrow.Author.Tests.{lt-leb}
 use Rattle.std.proofs.lemmas.List.{length-take-le}
@@ -21,7 +21,7 @@ use Rattle.pools.specs.Store.{Store, no_column as no_entry, root_of, node_entry}
 use Rattle.pools.specs.Stored.{Stored}
 use Rattle.pools.proofs.Reading.{stored_node}
 use Rattle.reading.specs.Readable.{RowReadable, row_text}
-use Rattle.std.specs.Option.{is_some, unwrap_or, option_map, ok_or}
+use Rattle.std.specs.Option.{IfSome, is_some, unwrap_or, option_map, ok_or}
 use Rattle.denials.specs.declared.Denial.TheVariants.{Text}
 use Rattle.reading.specs.Answers.{ShelfReadable, Placed, Gives}
 
@@ -56,6 +56,13 @@ found {xs} {columns} {j} u v n o r =
           sym (ap (λ (x : Option (Bor ColumnEntry)). unwrap_or (option_map (λ (y : Bor ColumnEntry). y.now) x) no_entry) o) ∙ r
           ∙ ap (λ (ys : List ColumnEntry). get_or ys j no_entry) u;
     }
+
+-- an entry that was looked up below the mark
+pub entry_found : (p : Pool ColumnEntry) (j : ℕ) {o : Option (Bor ColumnEntry)} {e : Bor ColumnEntry} → Standing p → true ≡ is_some o → is_some o ≡ ltb j p.mark → o ≡ Some e →
+    IfSome o (λ x. x.now ≡ get_or (used p) j no_entry) → Found (used p) j e.now
+entry_found p j {o} {e} h v n k r =
+    let P = λ (x : Option (Bor ColumnEntry)). unwrap_or (option_map (λ (y : Bor ColumnEntry). y.now) x) no_entry ≡ get_or (used p) j no_entry in
+    found refl v (n ∙ ap (ltb j) (sym (used_to_mark p h))) k (subst P (sym k) (subst (λ x. IfSome x (λ y. y.now ≡ get_or (used p) j no_entry)) k r))
 
 pub found_root : {P : Store} {s : Shelf} (j : ℕ) {e : ColumnEntry} → ShelfReadable P s → Found P.columns j e → e.root < length P.nodes
 found_root {P} j r f = subst (λ (x : ColumnEntry). x.root < length P.nodes) (sym f.is) (root_known j r (known_column j r f.there))

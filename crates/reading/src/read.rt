@@ -1,11 +1,13 @@
 // Reading a row of a column into a buffer: first the text is measured, and if it fits it is written.
-ghost use Rattle.std.specs.Prelude.{◌≡◌, length, nat_le};
+ghost use Rattle.std.specs.Prelude.{◌≡◌, length, nat_le, nat_lt, get_or};
+ghost use Rattle.std.specs.Option.{IfSome, is_some};
 ghost use Rattle.columns.specs.Column.{Column};
 ghost use Rattle.columns.specs.Ledger.{Shelf, reads, answer};
 ghost use Rattle.columns.specs.Limits.{most_levels};
 ghost use Rattle.columns.specs.Pools.{Entries};
-ghost use Rattle.pools.specs.Kept.{Ready};
-ghost use Rattle.pools.specs.Store.{store};
+ghost use Rattle.pools.specs.Kept.{Ready, Standing};
+ghost use Rattle.pools.specs.Store.{store, no_column};
+ghost use Rattle.pools.specs.Used.{used};
 ghost use Rattle.reading.specs.Readable.{RowReadable, row_text};
 ghost use Rattle.reading.specs.Answers.{Placed, Filled, ShelfReadable, Gives};
 
@@ -14,6 +16,7 @@ use crate::pen::{Gauge, Pen};
 use crate::shown::Shown;
 use denials::Denial;
 use pools::pools::Pools;
+use pools::records::ColumnEntry;
 use rows::tree::node_at;
 
 // A column has at most so many levels.
@@ -52,6 +55,15 @@ impl Shown<'_> {
     }
 }
 
+// The entry of a column, where there is one of this number.
+fn find_column<'a>(pools: &'a Pools<'_>, column: u32) -> Option<&'a ColumnEntry>
+    requires { Standing pools.now.columns }
+    ensures there { is_some result ≡ nat_lt column pools.now.columns.mark }
+    ensures entry { IfSome result (λ e. e.now ≡ get_or (used pools.now.columns) column no_column) }
+{
+    pools.columns.used().get(column as usize)
+}
+
 // Reads a row of a column of the shelf, as the ledger answers it. That the marks are in range stays a clause: the pools are the
 // caller's.
 pub fn read(pools: &Pools<'_>, column: u32, row: usize, text: &mut [u8]) -> Result<usize, Denial>
@@ -59,11 +71,7 @@ pub fn read(pools: &Pools<'_>, column: u32, row: usize, text: &mut [u8]) -> Resu
     requires given { ∥ ((s : Shelf) × ShelfReadable (store pools.now) s) ∥₁ }
     ensures { (lengths : Entries) (s : Shelf) → ShelfReadable (store pools.now) s → Gives result (answer lengths s (reads column row (length text.old))) text.old text.new }
 {
-    let entry = pools
-        .columns
-        .used()
-        .get(column as usize)
-        .ok_or(Denial::NoColumn(column))?;
+    let entry = find_column(pools, column).ok_or(Denial::NoColumn(column))?;
     let root = entry.root;
     if row >= node_at(&pools.nodes, root).rows as usize {
         return Err(Denial::Outside(row));
